@@ -1,0 +1,4 @@
+pub mod Bounded
+pub mod Fill
+pub mod Parts
+pub mod Wrap

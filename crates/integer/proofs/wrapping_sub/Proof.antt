@@ -1,0 +1,36 @@
+-- `wrapping_sub` meets its promise: the difference of two words fits 64 bits, and its low word is taken.
+use borrow.Author.Needs.{needs}
+use Prim.Native.Nat.{_^_}
+use mathlib.Core.Path.{_∙_}
+use mir.Facts.{toZ-ofZ}
+use mir.Syntax.{w32, w64}
+use Rattle.integer.proofs.Bounded.{Below, held, fits, back, of-fits, minus}
+use Rattle.integer.proofs.wrapping_sub.Statement.{statement}
+use Rattle.integer.proofs.wrapping_sub.Tie as tie
+
+module _ (c : tie.Start) where
+  a : Below (2 ^ 31) (c .args .a)
+  a = of-fits (c .fits .a)
+
+  b : Below (2 ^ 31) (c .args .b)
+  b = of-fits (c .fits .b)
+
+cast-low-word : tie.Need-cast-low-word
+cast-low-word c = rw (toZ-ofZ (c .fits .a)) (fits tt (a c))
+
+cast-low-word-2 : tie.Need-cast-low-word-2
+cast-low-word-2 c = rw (toZ-ofZ (c .fits .b)) (fits tt (b c))
+
+sub-low-word : tie.Need-sub-low-word
+sub-low-word c = simp (toZ-ofZ (c .fits .a), toZ-ofZ (c .fits .b), back tt (a c), back tt (b c)) (fits tt (minus (a c) (b c)))
+
+low-word-requires : tie.Need-low-word-requires
+low-word-requires c κs = search needs
+
+returns : tie.Need-returns
+returns c =
+    let s = c .before in
+    held w32 (c .low-word .result) (c .low-word .ok) ∙ (simp (toZ-ofZ (s .fits .a), toZ-ofZ (s .fits .b), back tt (a s), back tt (b s), back tt (minus (a s) (b s))) at (c .low-word .ensures))
+
+pub wrapping-sub-spec : {M : Type 1} → statement M
+wrapping-sub-spec = tie.close (tie.spec cast-low-word cast-low-word-2 sub-low-word low-word-requires returns)
