@@ -1,0 +1,3 @@
+pub mod Halvings
+pub mod Index
+pub mod Table
