@@ -1,0 +1,48 @@
+-- What the domain of the fetch says, part by part.
+use borrow.Author.Tests.{ltb-true, leb-true, eqb-true, le-leb}
+use lib.Dec.{ltb, leb, eqb, T}
+use lib.IntN.{ℤ}
+use lib.ListN.{length}
+use mathlib.Core.Bool.{Bool, true, false, _&&_}
+use mathlib.Core.List.{List}
+use mathlib.Core.Path.{_≡_, refl, sym, subst}
+use Prim.Native.Nat.{ℕ, _≤_, _<_, _^_}
+use Rattle.predict.specs.Neighbours.{inDomain, hasWidth}
+
+pub and-left : (a b : Bool) → (a && b) ≡ true → a ≡ true
+and-left true b e = refl
+and-left false b e = e
+
+pub and-right : (a b : Bool) → (a && b) ≡ true → b ≡ true
+and-right true b e = e
+and-right false b e = absurd (subst (λ (t : Bool). T t) (sym e) tt)
+
+pub record Domain (row top toptop : List ℤ) (x y : ℕ) : Type 0 where
+  pub narrow : length row ≤ 65536
+  pub inside : x < length row
+  pub early : y < 2 ^ 30
+  pub above : 1 ≤ y → length top ≡ length row
+  pub above2 : 2 ≤ y → length toptop ≡ length row
+
+wide : (least y width : ℕ) (row : List ℤ) → hasWidth least y row width ≡ true → least ≤ y → length row ≡ width
+wide least y width row e h = eqb-true (length row) width (simp (le-leb least y h) at e)
+
+pub domain : (row top toptop : List ℤ) (x y : ℕ) → inDomain row top toptop x y ≡ true → Domain row top toptop x y
+domain row top toptop x y e =
+    let a = leb 1 (length row) in
+    let b = leb (length row) 65536 in
+    let c = ltb x (length row) in
+    let d = ltb y (2 ^ 30) in
+    let f = hasWidth 1 y top (length row) in
+    let g = hasWidth 2 y toptop (length row) in
+    let e5 = and-left (a && b && c && d && f) g e in
+    let e4 = and-left (a && b && c && d) f e5 in
+    let e3 = and-left (a && b && c) d e4 in
+    let e2 = and-left (a && b) c e3 in
+    record {
+      narrow = leb-true (length row) 65536 (and-right a b e2);
+      inside = ltb-true x (length row) (and-right (a && b) c e3);
+      early = ltb-true y (2 ^ 30) (and-right (a && b && c) d e4);
+      above = wide 1 y (length row) top (and-right (a && b && c && d) f e5);
+      above2 = wide 2 y (length row) toptop (and-right (a && b && c && d && f) g e);
+    }
