@@ -1,0 +1,142 @@
+//! The decoder's own files, unchanged, with small stand-ins for what they lean on.
+//!
+//! `target/oracle/decoder` is a link that `oracle/run` sets to the folder it is given.
+//! The files name their surroundings as `crate::..`, so those modules stand here, at the root.
+
+#![allow(dead_code)] // the decoder has more than is compared
+
+use jxl_simd::SimdDescriptor;
+
+// Opens with an attribute of its module, which `include!` does not take: hence a module by path.
+#[rustfmt::skip] // a formatter follows such a path, and this file is not ours to change
+#[path = "../target/oracle/decoder/util/fast_math.rs"]
+mod fast_math;
+
+// fast_math.rs takes these two from its parent; `floor_log2_nonzero` needs neither.
+fn eval_rational_poly(_: f32, _: [f32; 3], _: [f32; 3]) -> f32 {
+    unimplemented!("a stand-in")
+}
+fn eval_rational_poly_simd<D: SimdDescriptor>(
+    _: D,
+    _: D::F32Vec,
+    _: [f32; 3],
+    _: [f32; 3],
+) -> D::F32Vec {
+    unimplemented!("a stand-in")
+}
+
+pub mod util {
+    pub use crate::fast_math::floor_log2_nonzero;
+    use std::collections::TryReserveError;
+
+    pub trait TryVecExt<T>: Sized {
+        fn try_from_elem(elem: T, count: usize) -> Result<Self, TryReserveError>;
+    }
+
+    impl<T: Clone> TryVecExt<T> for Vec<T> {
+        fn try_from_elem(elem: T, count: usize) -> Result<Self, TryReserveError> {
+            let mut all = Vec::new();
+            all.try_reserve_exact(count)?;
+            all.resize(count, elem);
+            Ok(all)
+        }
+    }
+}
+
+pub mod error {
+    use std::collections::TryReserveError;
+
+    #[derive(Debug)]
+    pub enum Error {
+        InvalidPredictor(u32),
+        OutOfMemory(TryReserveError),
+    }
+
+    impl From<TryReserveError> for Error {
+        fn from(e: TryReserveError) -> Self {
+            Error::OutOfMemory(e)
+        }
+    }
+
+    pub type Result<T, E = Error> = std::result::Result<T, E>;
+}
+
+pub mod headers {
+    pub mod modular {
+        use crate::error::Result;
+
+        /// The fields and the accessor of headers/modular.rs, without its reading from bits.
+        #[derive(Debug, PartialEq, Clone)]
+        pub struct WeightedHeader {
+            pub p1c: u32,
+            pub p2c: u32,
+            pub p3ca: u32,
+            pub p3cb: u32,
+            pub p3cc: u32,
+            pub p3cd: u32,
+            pub p3ce: u32,
+            pub w0: u32,
+            pub w1: u32,
+            pub w2: u32,
+            pub w3: u32,
+        }
+
+        impl WeightedHeader {
+            pub fn w(&self, i: usize) -> Result<u32> {
+                Ok([self.w0, self.w1, self.w2, self.w3][i])
+            }
+        }
+    }
+}
+
+pub mod image {
+    /// Packed rows; the decoder's own image adds padding and counts its memory.
+    pub struct Image<T> {
+        size: (usize, usize),
+        cells: Vec<T>,
+    }
+
+    impl<T: Clone + Default> Image<T> {
+        pub fn new(size: (usize, usize)) -> Self {
+            Image { size, cells: vec![T::default(); size.0 * size.1] }
+        }
+        pub fn size(&self) -> (usize, usize) {
+            self.size
+        }
+        pub fn row(&self, y: usize) -> &[T] {
+            &self.cells[y * self.size.0..][..self.size.0]
+        }
+        pub fn row_mut(&mut self, y: usize) -> &mut [T] {
+            &mut self.cells[y * self.size.0..][..self.size.0]
+        }
+    }
+}
+
+pub mod predict {
+    include!("../target/oracle/decoder/frame/modular/predict.rs");
+
+    // The rest is the oracle's own.
+
+    /// A door to a function that only this module sees.
+    #[inline(always)]
+    pub fn private_error_weight(x: u32, maxweight: u32) -> u32 {
+        error_weight(x, maxweight)
+    }
+
+    impl PredictionData {
+        /// The seven words in the order of the struct, which is the library's too.
+        pub fn words(self) -> [i32; 7] {
+            let Self { left, top, toptop, topleft, topright, leftleft, toprightright } = self;
+            [left, top, toptop, topleft, topright, leftleft, toprightright]
+        }
+
+        /// Of the first seven words.
+        #[inline(always)]
+        pub fn of(words: &[i32]) -> Self {
+            let &[left, top, toptop, topleft, topright, leftleft, toprightright] = &words[..7] else {
+                unreachable!()
+            };
+            Self { left, top, toptop, topleft, topright, leftleft, toprightright }
+        }
+    }
+}

@@ -1,0 +1,93 @@
+//! The library's C functions; those that take slices stand behind safe ones.
+//! Nothing checks these declarations against the library's source: keep the two equal by hand.
+
+/// A row and the two above it. Rows that are not looked at may have any length.
+#[derive(Clone, Copy)]
+pub struct Rows<'a> {
+    pub row: &'a [i32],
+    pub top: &'a [i32],
+    pub toptop: &'a [i32],
+}
+
+/// What the interior shortcut takes beside the data that it shifts.
+#[derive(Clone, Copy, Debug)]
+pub struct Shift {
+    pub x: usize,
+    pub cur: i32,
+    pub needs_top: bool,
+    pub needs_toptop: bool,
+}
+
+unsafe extern "C" {
+    #[link_name = "matuviso_floor_log2_nonzero"]
+    pub safe fn floor_log2_nonzero(x: u64) -> u32;
+    /// The weight, or minus the refusal's number.
+    #[link_name = "matuviso_error_weight"]
+    pub safe fn error_weight(x: u32, m: u32) -> i64;
+    fn matuviso_get_rows(
+        row: *const i32, row_len: usize, top: *const i32, top_len: usize,
+        toptop: *const i32, toptop_len: usize, x: usize, y: usize,
+        seven: *mut i32, seven_len: usize,
+    ) -> u32;
+    fn matuviso_update_for_interior_row(
+        data: *const i32, data_len: usize, top: *const i32, top_len: usize,
+        toptop: *const i32, toptop_len: usize, x: usize, cur: i32,
+        needs_top: bool, needs_toptop: bool, seven: *mut i32, seven_len: usize,
+    ) -> u32;
+    fn matuviso_predict_one(
+        p: u32, data: *const i32, data_len: usize, wp_pred: i64,
+        guess: *mut i64, guess_len: usize,
+    ) -> u32;
+    fn matuviso_guess_row(
+        row: *const i32, row_len: usize, top: *const i32, top_len: usize,
+        toptop: *const i32, toptop_len: usize, y: usize, p: u32, wp_pred: i64,
+        guesses: *mut i64, guesses_len: usize,
+    ) -> u32;
+}
+
+// In each call below a pointer and its length come from one slice, which lives through the call.
+// The answer is 0, or a refusal's number.
+
+#[inline(always)]
+pub fn get_rows(rows: Rows, x: usize, y: usize, seven: &mut [i32]) -> u32 {
+    let Rows { row, top, toptop } = rows;
+    unsafe {
+        matuviso_get_rows(
+            row.as_ptr(), row.len(), top.as_ptr(), top.len(), toptop.as_ptr(), toptop.len(),
+            x, y, seven.as_mut_ptr(), seven.len(),
+        )
+    }
+}
+
+#[inline(always)]
+pub fn update_for_interior_row(
+    data: &[i32], top: &[i32], toptop: &[i32], shift: Shift, seven: &mut [i32],
+) -> u32 {
+    let Shift { x, cur, needs_top, needs_toptop } = shift;
+    unsafe {
+        matuviso_update_for_interior_row(
+            data.as_ptr(), data.len(), top.as_ptr(), top.len(), toptop.as_ptr(), toptop.len(),
+            x, cur, needs_top, needs_toptop, seven.as_mut_ptr(), seven.len(),
+        )
+    }
+}
+
+#[inline(always)]
+pub fn predict_one(p: u32, data: &[i32], wp_pred: i64, guess: &mut [i64]) -> u32 {
+    unsafe {
+        matuviso_predict_one(
+            p, data.as_ptr(), data.len(), wp_pred, guess.as_mut_ptr(), guess.len(),
+        )
+    }
+}
+
+#[inline(always)]
+pub fn guess_row(rows: Rows, y: usize, p: u32, wp_pred: i64, guesses: &mut [i64]) -> u32 {
+    let Rows { row, top, toptop } = rows;
+    unsafe {
+        matuviso_guess_row(
+            row.as_ptr(), row.len(), top.as_ptr(), top.len(), toptop.as_ptr(), toptop.len(),
+            y, p, wp_pred, guesses.as_mut_ptr(), guesses.len(),
+        )
+    }
+}

@@ -1,0 +1,149 @@
+//! Writes answers of the Rust alone to a file, for a program that replays them without it.
+//! README.md has the form of a record; this program never sees the library.
+
+#[allow(dead_code)] // the comparisons draw more
+mod random;
+
+use decoder::predict::{PredictionData, Predictor, private_error_weight};
+use decoder::util::floor_log2_nonzero;
+use random::{Random, SEED};
+
+const MIN: i32 = i32::MIN;
+const MAX: i32 = i32::MAX;
+
+/// The records, 32 words each, and how many there are of each kind.
+struct Records {
+    bytes: Vec<u8>,
+    counts: [u32; 6],
+}
+
+impl Records {
+    /// One record: its kind, then each part from the next free word on; the rest is 0.
+    fn add(&mut self, kind: usize, parts: &[&[i32]]) {
+        let mut words = [&[kind as i32], parts.concat().as_slice()].concat();
+        assert!(words.len() <= 32);
+        words.resize(32, 0);
+        self.bytes.extend(words.iter().flat_map(|w| w.to_le_bytes()));
+        self.counts[kind] += 1;
+    }
+}
+
+fn main() {
+    let path = std::env::args().nth(1).expect("the file to write");
+    let mut records = Records { bytes: Vec::new(), counts: [0; 6] };
+    let random = &mut Random::new(12);
+    highest_bits(&mut records, random);
+    error_weights(&mut records, random);
+    neighbours(&mut records, random);
+    shortcuts(&mut records, random);
+    guesses(&mut records, random);
+    std::fs::write(&path, &records.bytes).expect("a file that can be written");
+    println!("seed {SEED:#x}; {} bytes", records.bytes.len());
+    let names =
+        ["floor_log2_nonzero", "error_weight", "get_rows", "update_for_interior_row", "predict_one"];
+    for (kind, name) in (1..).zip(names) {
+        println!("kind {kind} {name:<24}{:>5} records", records.counts[kind]);
+    }
+    println!("{:>36} in all", records.counts.iter().sum::<u32>());
+}
+
+/// Low and high half.
+fn halves(x: i64) -> [i32; 2] {
+    [x as i32, (x >> 32) as i32]
+}
+
+fn highest_bits(records: &mut Records, random: &mut Random) {
+    let edges = (0..64).flat_map(|bit| [(1u64 << bit) - 1, 1 << bit, (1 << bit) + 1]);
+    let inside: Vec<u64> = (0..64).map(|shift| (random.next() | 1 << 63) >> shift).collect();
+    for x in edges.chain([u64::MAX]).chain(inside) {
+        records.add(1, &[&halves(x as i64), &[floor_log2_nonzero(x) as i32]]);
+    }
+}
+
+/// Every x of the table's own range and both sides of each power of two; then any x and m.
+fn error_weights(records: &mut Records, random: &mut Random) {
+    let edges = (6..32).flat_map(|bit| [(1u32 << bit) - 2, (1 << bit) - 1, 1 << bit, (1 << bit) + 1]);
+    let mut asks: Vec<(u32, u32)> = (0..62)
+        .chain(edges)
+        .chain([u32::MAX - 1, u32::MAX])
+        .flat_map(|x| [0, 1, 13, 15].map(|m| (x, m)))
+        .collect();
+    asks.extend((0..200).map(|_| (random.sized(), random.below(16) as u32)));
+    for (x, m) in asks {
+        records.add(2, &[&[x as i32, m as i32, private_error_weight(x, m) as i32]]);
+    }
+}
+
+/// Six words of which the first `len` are filled: counted up, the ends of the range, or any.
+fn six(random: &mut Random, filling: i32, len: usize, start: i32) -> [i32; 6] {
+    let mut cells = [0; 6];
+    for (k, cell) in cells[..len].iter_mut().enumerate() {
+        *cell = match filling {
+            0 => start + k as i32,
+            1 => random.one_of(&[MIN, MAX]),
+            _ => random.word(),
+        };
+    }
+    cells
+}
+
+/// Every fallback: widths 1 to 6, every column, rows 0 to 3.
+fn neighbours(records: &mut Records, random: &mut Random) {
+    for (width, k) in (1..=6).flat_map(|width| (0..32).map(move |k| (width, k))) {
+        let (y, filling) = (k / 8, k as i32 % 8);
+        let [row, top, toptop] = [100, 200, 300].map(|start| six(random, filling, width, start));
+        for x in 0..width {
+            let seven =
+                PredictionData::get_rows(&row[..width], &top[..width], &toptop[..width], x, y).words();
+            records.add(3, &[&[width as i32, x as i32, y as i32], &row, &top, &toptop, &seven]);
+        }
+    }
+}
+
+/// The places that rows of six or fewer have for the shortcut, each with all four needs.
+fn shortcuts(records: &mut Records, random: &mut Random) {
+    for (len, x) in [(5, 2), (6, 2), (6, 3)] {
+        for (needs, filling) in (0..4).flat_map(|needs| (0..25).map(move |f| (needs, f))) {
+            let [top, toptop] = [200, 300].map(|start| six(random, filling, len, start));
+            let (old, cur) = (random.seven(), random.word());
+            let (above, two_above) = (&top[..len], &toptop[..len]);
+            let seven = PredictionData::of(&old)
+                .update_for_interior_row(above, two_above, x, cur, needs & 1 != 0, needs & 2 != 0)
+                .words();
+            records.add(4, &[&[len as i32, x as i32, cur, needs], &old, &top, &toptop, &seven]);
+        }
+    }
+}
+
+/// Neighbourhoods around each predictor's edges, and any; all fourteen on each.
+fn guesses(records: &mut Records, random: &mut Random) {
+    // left, top, topleft: document 01's edges, ties, and both ends of the range.
+    #[rustfmt::skip]
+    let corners = [
+        [3, 7, 5], [0, -3, 9], [-3, 0, 9], [10, 20, 5], [10, 20, 14], [10, 20, 25],
+        [10, 20, 10], [10, 20, 20], [20, 10, 5], [20, 10, 25], [7, 3, 5], [4, 4, 4], [-1, -2, -1],
+        [MIN, MAX, 0], [MAX, MIN, -1], [MIN, MIN, MAX], [MAX, MAX, MIN], [MIN, MAX, MIN],
+        [MAX, MIN, MAX], [MIN, MIN, MIN], [MAX, MAX, MAX], [MIN, 0, MAX], [0, MAX, MIN],
+    ];
+    let mut sevens: Vec<[i32; 7]> = corners
+        .into_iter()
+        .map(|[left, top, topleft]| {
+            let [a, b, c, d] = [(); 4].map(|_| random.word());
+            [left, top, a, topleft, b, c, d]
+        })
+        .collect();
+    // AverageAll on both sides of its multiples of 16 (7·left + leftleft + 8), and at its extremes.
+    sevens.extend([-40, -25, -24, -23, -9, -8, -7, 7, 8, 9].map(|leftleft| [0, 0, 0, 0, 0, leftleft, 0]));
+    sevens.push([MAX, MAX, MIN, 0, MAX, MAX, MAX]);
+    sevens.push([MIN, MIN, MAX, 0, MIN, MIN, MIN]);
+    sevens.extend((0..65).map(|_| random.seven()));
+    let mut guesses: Vec<i64> =
+        vec![0, 1, -1, i64::MIN, i64::MAX, 1 << 32, -1 << 32, MIN as i64 - 1, MAX as i64 + 1];
+    guesses.resize_with(sevens.len(), || random.long());
+    for (seven, wp_pred) in sevens.into_iter().zip(guesses) {
+        for p in 0..Predictor::NUM_PREDICTORS {
+            let guess = Predictor::try_from(p).unwrap().predict_one(PredictionData::of(&seven), wp_pred);
+            records.add(5, &[&[p as i32], &seven, &halves(wp_pred), &halves(guess)]);
+        }
+    }
+}
