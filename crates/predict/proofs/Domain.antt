@@ -1,5 +1,5 @@
 -- What the domain of the fetch says, part by part.
-use borrow.Author.Tests.{ltb-true, leb-true, eqb-true, le-leb}
+use borrow.Author.Tests.{ltb-true, leb-true, eqb-true, le-leb, lt-ltb, eq-eqb}
 use lib.Dec.{ltb, leb, eqb, T}
 use lib.IntN.{ℤ}
 use lib.ListN.{length}
@@ -7,6 +7,8 @@ use mathlib.Core.Bool.{Bool, true, false, _&&_}
 use mathlib.Core.List.{List}
 use mathlib.Core.Path.{_≡_, refl, sym, subst}
 use Prim.Native.Nat.{ℕ, _≤_, _<_, _^_}
+use native.Mathlib.Omega.{arith}
+use Rattle.integer.specs.Order.{if}
 use Rattle.predict.specs.Neighbours.{inDomain, hasWidth}
 
 pub and-left : (a b : Bool) → (a && b) ≡ true → a ≡ true
@@ -46,3 +48,22 @@ domain row top toptop x y e =
       above = wide 1 y (length row) top (and-right (a && b && c && d) f e5);
       above2 = wide 2 y (length row) toptop (and-right (a && b && c && d && f) g e);
     }
+
+narrow-enough : (least y width : ℕ) (row : List ℤ) → (least ≤ y → length row ≡ width) → hasWidth least y row width ≡ true
+narrow-enough least y width row h = by (leb least y) refl
+  where
+    by : (t : Bool) → leb least y ≡ t → if t (eqb (length row) width) true ≡ true
+    by true e = eq-eqb (length row) width (h (leb-true least y e))
+    by false e = refl
+
+pub in-domain : (row top toptop : List ℤ) (x y : ℕ) → Domain row top toptop x y → inDomain row top toptop x y ≡ true
+in-domain row top toptop x y d =
+    let some : 1 ≤ length row = omega (arith, d .inside) in
+    simp (
+      le-leb 1 (length row) some,
+      le-leb (length row) 65536 (d .narrow),
+      lt-ltb x (length row) (d .inside),
+      lt-ltb y (2 ^ 30) (d .early),
+      narrow-enough 1 y (length row) top (d .above),
+      narrow-enough 2 y (length row) toptop (d .above2),
+    )

@@ -1,0 +1,58 @@
+-- The cases that document 01 marks with a star: what the library's definitions say, and what the paper says. A later module
+-- adds its rows, and names what its definitions unfold on the `unfolding` line; the theorem's proof stays as it is.
+use mathlib.Core.List.{List, [], _∷_, map}
+use mathlib.Core.Path.{_≡_, refl}
+use Prim.Native.Nat.{ℕ}
+use lib.IntN.{ℤ, pos, negsuc}
+use Rattle.refusal.specs.Paper.{Outcome, gives, refuses}
+use Rattle.arith.specs.Weights.{errorWeight, floorLog2, halvings}
+use Rattle.predict.specs.Predictors.{guess}
+use Rattle.predict.specs.declared.neighbours.PredictionData.{PredictionData}
+use Rattle.predict.specs.declared.predictors.Predictor.{Predictor}
+use Rattle.predict.specs.declared.predictors.Predictor.the-variants.{Select, AverageWestAndNorth, Gradient}
+
+pub data Case : Type 0 where
+  says : List ℤ → List ℤ → Case
+
+-- an outcome as numbers: 0 and the answer, or a refusal's number and its details
+abbrev numbers : Outcome ℕ → List ℤ
+numbers (gives n) = pos 0 ∷ pos n ∷ []
+numbers (refuses number details) = pos number ∷ details
+
+-- the guess of a predictor that looks at left, top and topleft alone
+abbrev corner : Predictor → ℤ → ℤ → ℤ → List ℤ
+corner p left top topleft =
+    guess p
+    record { left = left; top = top; toptop = pos 0; topleft = topleft; topright = pos 0; leftleft = pos 0; toprightright = pos 0 }
+    (pos 0)
+    ∷ []
+
+unfoldable pub table : List Case
+unfolding floorLog2 halvings
+table =
+    -- Select(left 3, top 7, topleft 5) = 7: a tie gives top
+    says (corner Select (pos 3) (pos 7) (pos 5)) (pos 7 ∷ [])
+    -- the North/West average of -3 and 0 is -1: toward zero
+    ∷ says (corner AverageWestAndNorth (pos 0) (negsuc 2) (pos 0)) (negsuc 0 ∷ [])
+    -- Gradient of left 10, top 20: topleft 5 gives 20, 14 gives 16, 25 gives 10
+    ∷ says (corner Gradient (pos 10) (pos 20) (pos 5)) (pos 20 ∷ [])
+    ∷ says (corner Gradient (pos 10) (pos 20) (pos 14)) (pos 16 ∷ [])
+    ∷ says (corner Gradient (pos 10) (pos 20) (pos 25)) (pos 10 ∷ [])
+    -- error_weight with m = 13
+    ∷ says (numbers (errorWeight 0 13)) (pos 0 ∷ pos 218103812 ∷ [])
+    ∷ says (numbers (errorWeight 30 13)) (pos 0 ∷ pos 7035604 ∷ [])
+    ∷ says (numbers (errorWeight 31 13)) (pos 0 ∷ pos 6815748 ∷ [])
+    ∷ says (numbers (errorWeight 63 13)) (pos 0 ∷ pos 3407876 ∷ [])
+    ∷ says (numbers (errorWeight 4294967295 13)) (pos 0 ∷ pos 4 ∷ [])
+    ∷ []
+
+abbrev defined : Case → List ℤ
+defined (says ours theirs) = ours
+
+abbrev paper : Case → List ℤ
+paper (says ours theirs) = theirs
+
+-- The starred cases hold, all of them.
+pub starred : map defined table ≡ map paper table
+unfolding table
+starred = refl
