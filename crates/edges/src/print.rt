@@ -1,0 +1,67 @@
+// Lines on standard output.
+use predict::neighbours::PredictionData;
+use refusal::Refusal;
+
+pub fn text(bytes: &[u8]) {
+    io::write_all(libc::STDOUT_FILENO, bytes);
+}
+
+pub fn natural(n: u64) {
+    io::print_decimal(libc::STDOUT_FILENO, n);
+}
+
+// |n|. That of -2^63 fits no i64: one is added after the sign is gone.
+fn magnitude(n: i64) -> u64 {
+    if n < 0 { (-1 - n) as u64 + 1 } else { n as u64 }
+}
+
+pub fn signed(n: i64) {
+    if n < 0 {
+        text(b"-");
+    }
+    natural(magnitude(n));
+}
+
+pub fn word(n: i32) {
+    signed(integer::widen(n));
+}
+
+// A name with its number, as ` x=3`.
+pub fn named(name: &[u8], n: u64) {
+    text(b" ");
+    text(name);
+    text(b"=");
+    natural(n);
+}
+
+pub fn named_word(name: &[u8], n: i32) {
+    text(b" ");
+    text(name);
+    text(b"=");
+    word(n);
+}
+
+// The end of a line whose answer is a number.
+pub fn answer(n: i64) {
+    text(b": ");
+    signed(n);
+    text(b"\n");
+}
+
+pub fn refused(refusal: Refusal) {
+    text(b": refused ");
+    natural(refusal.number() as u64);
+    text(b" (");
+    natural(refusal.first_detail() as u64);
+    text(b")\n");
+}
+
+pub fn seven(data: PredictionData) {
+    named_word(b"left", data.left);
+    named_word(b"top", data.top);
+    named_word(b"toptop", data.toptop);
+    named_word(b"topleft", data.topleft);
+    named_word(b"topright", data.topright);
+    named_word(b"leftleft", data.leftleft);
+    named_word(b"toprightright", data.toprightright);
+}

@@ -1,0 +1,145 @@
+// A record holds a call and the Rust's answer. Its first word is the kind:
+// 1 floor_log2_nonzero: words 1, 2 the number; 3 the answer
+// 2 error_weight: word 1 the error; 2 the largest weight; 3 the answer
+// 3 get_rows: word 1 the width, at most 6; 2 x; 3 y; 4.. the row; 10.. the row above; 16.. the one above that; 22.. the seven
+// 4 update_for_interior_row: word 1 the length of both rows above, at most 6; 2 x; 3 the pixel; 4 what is needed, 1 top and
+//   2 toptop; 5.. the seven before; 12.. the row above; 18.. the one above that; 24.. the seven
+// 5 predict_one: word 1 the predictor; 2.. the seven; 9, 10 the weighted guess; 11, 12 the answer
+ghost use Prim.Native.Nat.{_+_, _≤_};
+ghost use lib.ListN.{length};
+use crate::words;
+use arith::Weight;
+use predict::neighbours::Neighbourhood;
+use predict::neighbours::PredictionData;
+use predict::predictors::Numbered;
+use predict::predictors::Predictor;
+
+pub enum Outcome {
+    Equal,
+    Differs,
+    Refused,
+    // no such kind, or a number that no record of its kind has
+    NoForm,
+    CutShort,
+    Unread,
+}
+
+fn told(equal: bool) -> Outcome {
+    if equal {
+        Outcome::Equal
+    } else {
+        Outcome::Differs
+    }
+}
+
+fn floor_log2(bytes: &[u8]) -> Outcome
+    requires { ⌜ 128 ≤ length (now bytes) ⌝ }
+{
+    told(arith::floor_log2_nonzero(words::long_bits(bytes, 1)) == words::bits(bytes, 3))
+}
+
+fn error_weight(bytes: &[u8]) -> Outcome
+    requires { ⌜ 128 ≤ length (now bytes) ⌝ }
+{
+    match arith::error_weight(words::bits(bytes, 1), words::bits(bytes, 2)) {
+        Weight::Is(weight) => told(weight == words::bits(bytes, 3)),
+        Weight::Refused(_) => Outcome::Refused,
+    }
+}
+
+// Whether the seven are the words from k on.
+fn are(data: PredictionData, bytes: &[u8], k: usize) -> bool
+    requires { ⌜ (128 ≤ length (now bytes)) × (k + 7 ≤ 32) ⌝ }
+{
+    data.left == words::word(bytes, k)
+        && data.top == words::word(bytes, k + 1)
+        && data.toptop == words::word(bytes, k + 2)
+        && data.topleft == words::word(bytes, k + 3)
+        && data.topright == words::word(bytes, k + 4)
+        && data.leftleft == words::word(bytes, k + 5)
+        && data.toprightright == words::word(bytes, k + 6)
+}
+
+fn found_are(found: Neighbourhood, bytes: &[u8], k: usize) -> Outcome
+    requires { ⌜ (128 ≤ length (now bytes)) × (k + 7 ≤ 32) ⌝ }
+{
+    match found {
+        Neighbourhood::Is(data) => told(are(data, bytes, k)),
+        Neighbourhood::Refused(_) => Outcome::Refused,
+    }
+}
+
+fn get_rows(bytes: &[u8]) -> Outcome
+    requires { ⌜ 128 ≤ length (now bytes) ⌝ }
+{
+    let width = words::bits(bytes, 1) as usize;
+    if 6 < width {
+        return Outcome::NoForm;
+    }
+    let x = words::bits(bytes, 2) as usize;
+    let y = words::bits(bytes, 3) as usize;
+    let row = words::row(bytes, 4);
+    let above = words::row(bytes, 10);
+    let above2 = words::row(bytes, 16);
+    let found = predict::neighbours::get_rows(
+        &row[0..width],
+        &above[0..width],
+        &above2[0..width],
+        x,
+        y,
+    );
+    found_are(found, bytes, 22)
+}
+
+fn update_for_interior_row(bytes: &[u8]) -> Outcome
+    requires { ⌜ 128 ≤ length (now bytes) ⌝ }
+{
+    let width = words::bits(bytes, 1) as usize;
+    let needs = words::bits(bytes, 4);
+    if 6 < width {
+        return Outcome::NoForm;
+    }
+    if 3 < needs {
+        return Outcome::NoForm;
+    }
+    let x = words::bits(bytes, 2) as usize;
+    let cur = words::word(bytes, 3);
+    let before = words::seven(bytes, 5);
+    let above = words::row(bytes, 12);
+    let above2 = words::row(bytes, 18);
+    let found = before.update_for_interior_row(
+        &above[0..width],
+        &above2[0..width],
+        x,
+        cur,
+        needs & 1 != 0,
+        needs & 2 != 0,
+    );
+    found_are(found, bytes, 24)
+}
+
+fn predict_one(bytes: &[u8]) -> Outcome
+    requires { ⌜ 128 ≤ length (now bytes) ⌝ }
+{
+    match Predictor::try_from(words::bits(bytes, 1)) {
+        Numbered::Is(predictor) => {
+            let guess = predictor.predict_one(words::seven(bytes, 2), words::long_word(bytes, 9));
+            told(guess == words::long_word(bytes, 11))
+        }
+        Numbered::NoSuch => Outcome::Refused,
+    }
+}
+
+// Whether the library's answer is the record's.
+pub fn hold(bytes: &[u8]) -> Outcome
+    requires { ⌜ 128 ≤ length (now bytes) ⌝ }
+{
+    match words::bits(bytes, 0) {
+        1 => floor_log2(bytes),
+        2 => error_weight(bytes),
+        3 => get_rows(bytes),
+        4 => update_for_interior_row(bytes),
+        5 => predict_one(bytes),
+        _ => Outcome::NoForm,
+    }
+}

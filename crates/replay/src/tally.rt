@@ -1,0 +1,72 @@
+// How many records of each kind were equal, and how many in all. The counts wrap, past any input.
+pub struct Tally {
+    pub all: u64,
+    pub floor_log2: u64,
+    pub error_weight: u64,
+    pub get_rows: u64,
+    pub update: u64,
+    pub predict_one: u64,
+}
+
+fn one_more(n: u64) -> u64 {
+    std::num::wrapping_add_u64(n, 1)
+}
+
+impl Tally {
+    pub fn none() -> Self {
+        Tally {
+            all: 0,
+            floor_log2: 0,
+            error_weight: 0,
+            get_rows: 0,
+            update: 0,
+            predict_one: 0,
+        }
+    }
+
+    // With one record more of this kind.
+    pub fn more(mut self, kind: u32) -> Self {
+        self.all = one_more(self.all);
+        match kind {
+            1 => {
+                self.floor_log2 = one_more(self.floor_log2);
+            }
+            2 => {
+                self.error_weight = one_more(self.error_weight);
+            }
+            3 => {
+                self.get_rows = one_more(self.get_rows);
+            }
+            4 => {
+                self.update = one_more(self.update);
+            }
+            5 => {
+                self.predict_one = one_more(self.predict_one);
+            }
+            _ => {}
+        }
+        self
+    }
+
+    pub fn print(self) {
+        line(b"floor_log2_nonzero: ", self.floor_log2);
+        line(b"error_weight: ", self.error_weight);
+        line(b"get_rows: ", self.get_rows);
+        line(b"update_for_interior_row: ", self.update);
+        line(b"predict_one: ", self.predict_one);
+    }
+}
+
+pub fn text(bytes: &[u8]) {
+    io::write_all(libc::STDOUT_FILENO, bytes);
+}
+
+pub fn natural(n: u64) {
+    io::print_decimal(libc::STDOUT_FILENO, n);
+}
+
+fn line(name: &[u8], n: u64) {
+    text(name);
+    natural(n);
+    text(b" equal\n");
+}
