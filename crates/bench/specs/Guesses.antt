@@ -8,7 +8,7 @@ use lib.IntN.{ℤ, pos}
 use lib.ListN.{length}
 use Rattle.integer.specs.Fill.{filled}
 use Rattle.integer.specs.Order.{if}
-use Rattle.refusal.specs.Paper.{Outcome, gives, refuses}
+use Rattle.refusal.specs.Paper.{Outcome, gives, refuses, one-value}
 use Rattle.predict.specs.Neighbours.{inDomain, neighbours}
 use Rattle.predict.specs.Predictors.{numbered, guess}
 use Rattle.predict.specs.declared.neighbours.PredictionData.{PredictionData}
@@ -40,3 +40,7 @@ pub record GuessesRow (row top toptop : List ℤ) (y p : ℕ) (wp : ℤ) (words 
   pub holds :
       end
       ≡ after (inDomain row top toptop 0 y) (numbered p) (λ q. guessAt row top toptop y q wp) (length row) words
+
+pub guesses-row-determined : (row top toptop : List ℤ) (y p : ℕ) (wp : ℤ) (words : List ℤ) {r s : ℕ} {u v : List ℤ}
+    → GuessesRow row top toptop y p wp words r u → GuessesRow row top toptop y p wp words s v → (r ≡ s) × (u ≡ v)
+guesses-row-determined row top toptop y p wp words a b = (one-value (a .answers) (b .answers), one-value (a .holds) (b .holds))

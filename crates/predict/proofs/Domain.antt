@@ -8,16 +8,9 @@ use mathlib.Core.List.{List}
 use mathlib.Core.Path.{_≡_, refl, sym, subst}
 use Prim.Native.Nat.{ℕ, _≤_, _<_, _^_}
 use native.Mathlib.Omega.{arith}
+use Rattle.integer.proofs.Tests.{and-left, and-right}
 use Rattle.integer.specs.Order.{if}
 use Rattle.predict.specs.Neighbours.{inDomain, hasWidth}
-
-pub and-left : (a b : Bool) → (a && b) ≡ true → a ≡ true
-and-left true b e = refl
-and-left false b e = e
-
-pub and-right : (a b : Bool) → (a && b) ≡ true → b ≡ true
-and-right true b e = e
-and-right false b e = absurd (subst (λ (t : Bool). T t) (sym e) tt)
 
 pub record Domain (row top toptop : List ℤ) (x y : ℕ) : Type 0 where
   pub narrow : length row ≤ 65536

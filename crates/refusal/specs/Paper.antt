@@ -104,3 +104,7 @@ one-value p q = p ∙ sym q
 
 pub one-answer : {R A : Type 0} (view : R → Outcome A) (back : Outcome A → R) → ((r : R) → back (view r) ≡ r) → {v : Outcome A} (r s : R) → view r ≡ v → view s ≡ v → r ≡ s
 one-answer view back again r s p q = sym (again r) ∙ ap back (one-value p q) ∙ again s
+
+-- the promise of `first_detail` leaves one number
+pub first-detail-determined : (a : Refusal) (r s : ℕ) → pos r ≡ getD (detailsOf a) 0 (pos 0) → pos s ≡ getD (detailsOf a) 0 (pos 0) → r ≡ s
+first-detail-determined a r s p q = ap natAbs (one-value p q)

@@ -2,15 +2,12 @@
 use lib.ListN.{List·getD-eq-default}
 use mathlib.Core.List.{map}
 use mathlib.Core.Path.{_≡_, sym}
-use native.Mathlib.Omega.{arith}
-use Prim.Native.Nat.{ℕ, suc, _≤_, zero-le}
+use Prim.Native.Nat.{_≤_, zero-le}
+use Rattle.integer.proofs.Tests.{past}
 use Rattle.predict.specs.Predictors.{predictors}
 use Rattle.predict.specs.declared.predictors.Numbered.the-variants.{Is, NoSuch}
 use Rattle.predict.proofs.predictors.Predictor.try_from.Statement.{statement}
 use Rattle.predict.proofs.predictors.Predictor.try_from.Tie as tie
-
-next : {k n : ℕ} → k ≤ n → (n ≡ k → ⊥) → suc k ≤ n
-next h differs = omega (arith, differs)
 
 returns : tie.Need-returns
 returns c = simp (c .match .keys1)
@@ -58,8 +55,8 @@ returns-14 c = simp (c .match .keys14)
 returns-15 : tie.Need-returns-15
 returns-15 c =
     let none = c .match .rest in
-    let past : 14 ≤ c .before .args .value = (next (next (next (next (next (next (next (next (next (next (next (next (next (next zero-le (none .0 .0 .0 .0 .0 .0 .0 .0 .0 .0 .0 .0 .0 .1)) (none .0 .0 .0 .0 .0 .0 .0 .0 .0 .0 .0 .0 .1)) (none .0 .0 .0 .0 .0 .0 .0 .0 .0 .0 .0 .1)) (none .0 .0 .0 .0 .0 .0 .0 .0 .0 .0 .1)) (none .0 .0 .0 .0 .0 .0 .0 .0 .0 .1)) (none .0 .0 .0 .0 .0 .0 .0 .0 .1)) (none .0 .0 .0 .0 .0 .0 .0 .1)) (none .0 .0 .0 .0 .0 .0 .1)) (none .0 .0 .0 .0 .0 .1)) (none .0 .0 .0 .0 .1)) (none .0 .0 .0 .1)) (none .0 .0 .1)) (none .0 .1)) (none .1)) in
-    sym (List·getD-eq-default (map Is predictors) NoSuch past)
+    let beyond : 14 ≤ c .before .args .value = (past (past (past (past (past (past (past (past (past (past (past (past (past (past zero-le (none .0 .0 .0 .0 .0 .0 .0 .0 .0 .0 .0 .0 .0 .1)) (none .0 .0 .0 .0 .0 .0 .0 .0 .0 .0 .0 .0 .1)) (none .0 .0 .0 .0 .0 .0 .0 .0 .0 .0 .0 .1)) (none .0 .0 .0 .0 .0 .0 .0 .0 .0 .0 .1)) (none .0 .0 .0 .0 .0 .0 .0 .0 .0 .1)) (none .0 .0 .0 .0 .0 .0 .0 .0 .1)) (none .0 .0 .0 .0 .0 .0 .0 .1)) (none .0 .0 .0 .0 .0 .0 .1)) (none .0 .0 .0 .0 .0 .1)) (none .0 .0 .0 .0 .1)) (none .0 .0 .0 .1)) (none .0 .0 .1)) (none .0 .1)) (none .1)) in
+    sym (List·getD-eq-default (map Is predictors) NoSuch beyond)
 
 pub try-from-spec : {M : Type 1} → statement M
 try-from-spec =
