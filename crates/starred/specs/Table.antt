@@ -6,6 +6,8 @@ use Prim.Native.Nat.{ℕ}
 use lib.IntN.{ℤ, pos, negsuc}
 use Rattle.refusal.specs.Paper.{Outcome, gives, refuses}
 use Rattle.arith.specs.Weights.{errorWeight, floorLog2, halvings}
+use Rattle.colour.specs.Restore.{operate}
+use Rattle.colour.specs.declared.restore.Triple.{Triple}
 use Rattle.predict.specs.Predictors.{guess}
 use Rattle.predict.specs.declared.neighbours.PredictionData.{PredictionData}
 use Rattle.predict.specs.declared.predictors.Predictor.{Predictor}
@@ -27,6 +29,13 @@ corner p left top topleft =
     (pos 0)
     ∷ []
 
+-- a triple after an operation
+abbrev words : Triple → List ℤ
+words t = t .a ∷ t .b ∷ t .c ∷ []
+
+abbrev colours : ℕ → ℤ → ℤ → ℤ → List ℤ
+colours operation a b c = words (operate operation record { a = a; b = b; c = c })
+
 unfoldable pub table : List Case
 unfolding floorLog2 halvings
 table =
@@ -44,6 +53,10 @@ table =
     ∷ says (numbers (errorWeight 31 13)) (pos 0 ∷ pos 6815748 ∷ [])
     ∷ says (numbers (errorWeight 63 13)) (pos 0 ∷ pos 3407876 ∷ [])
     ∷ says (numbers (errorWeight 4294967295 13)) (pos 0 ∷ pos 4 ∷ [])
+    -- operation 6 on (100, 7, -3), 4 on (5, 0, -8), 5 on the same
+    ∷ says (colours 6 (pos 100) (pos 7) (negsuc 2)) (pos 106 ∷ pos 99 ∷ pos 99 ∷ [])
+    ∷ says (colours 4 (pos 5) (pos 0) (negsuc 7)) (pos 5 ∷ negsuc 1 ∷ negsuc 7 ∷ [])
+    ∷ says (colours 5 (pos 5) (pos 0) (negsuc 7)) (pos 5 ∷ pos 1 ∷ negsuc 2 ∷ [])
     ∷ []
 
 abbrev defined : Case → List ℤ

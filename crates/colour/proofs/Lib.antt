@@ -1,0 +1,3 @@
+pub mod Planes
+pub mod RowWithin
+pub mod StandardColour

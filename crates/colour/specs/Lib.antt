@@ -1,0 +1,3 @@
+pub mod Restore
+pub mod Rows
+pub mod Standard
