@@ -1,5 +1,7 @@
 //! Times of library and Rust in one run, side by side, printed as ratios (below 1: the library is faster).
 
+mod colour;
+
 use crate::compare::predictors::rust_guess_row;
 use crate::library::{self, Rows};
 use crate::random::Random;
@@ -13,6 +15,7 @@ const SIDE: usize = 1024;
 pub fn all() {
     guess_rows();
     error_weights();
+    colour::all();
 }
 
 fn seconds(work: impl FnOnce()) -> f64 {
@@ -38,16 +41,24 @@ fn sorted(numbers: impl Iterator<Item = f64>) -> Vec<f64> {
     all
 }
 
+fn median(numbers: impl Iterator<Item = f64>) -> f64 {
+    let all = sorted(numbers);
+    all[all.len() / 2]
+}
+
 /// The median over the rounds of each round's own ratio, so that a slow spell of the machine cancels.
 fn report(what: &str, times: &[(f64, f64)], calls: usize) {
-    let (middle, last) = (times.len() / 2, times.len() - 1);
+    println!("{}", line(what, times, calls));
+}
+
+fn line(what: &str, times: &[(f64, f64)], calls: usize) -> String {
     let ratios = sorted(times.iter().map(|t| t.0 / t.1));
-    let (ratio, low, high) = (ratios[middle], ratios[0], ratios[last]);
-    let library = sorted(times.iter().map(|t| t.0))[middle] / calls as f64 * 1e9;
-    let rust = sorted(times.iter().map(|t| t.1))[middle] / calls as f64 * 1e9;
-    println!(
-        "{what:<28} library/Rust {ratio:.3} (rounds {low:.3} to {high:.3}; {library:.2} ns, {rust:.2} ns)"
-    );
+    let (ratio, low, high) = (ratios[ratios.len() / 2], ratios[0], ratios[ratios.len() - 1]);
+    let library = median(times.iter().map(|t| t.0)) / calls as f64 * 1e9;
+    let rust = median(times.iter().map(|t| t.1)) / calls as f64 * 1e9;
+    format!(
+        "{what:<31} library/Rust {ratio:.3} (rounds {low:.3} to {high:.3}; {library:.2} ns, {rust:.2} ns)"
+    )
 }
 
 /// A plane like a scanned gel: a slowly rising ground, lanes of soft bands, noise; 16-bit values.

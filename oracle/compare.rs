@@ -2,6 +2,7 @@
 //! The first difference is printed with its inputs and ends the run with status 1.
 
 mod arithmetic;
+mod colour;
 mod neighbours;
 pub mod predictors;
 
@@ -14,6 +15,7 @@ pub fn all() {
     arithmetic::all();
     neighbours::all();
     predictors::all();
+    colour::all();
 }
 
 /// Counts the cases of one comparison and says so at its end.

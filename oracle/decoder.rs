@@ -41,6 +41,10 @@ pub mod util {
             Ok(all)
         }
     }
+
+    pub mod tracing_wrappers {
+        pub use tracing::instrument;
+    }
 }
 
 pub mod error {
@@ -110,6 +114,53 @@ pub mod image {
             &mut self.cells[y * self.size.0..][..self.size.0]
         }
     }
+
+    // The oracle's own: a plane as one slice.
+    impl<T> Image<T> {
+        pub fn of(size: (usize, usize), cells: Vec<T>) -> Self {
+            assert_eq!(size.0 * size.1, cells.len());
+            Image { size, cells }
+        }
+        pub fn cells(&mut self) -> &mut [T] {
+            &mut self.cells
+        }
+    }
+}
+
+pub mod frame {
+    pub mod modular {
+        use crate::image::Image;
+
+        /// The plane alone; the decoder's own channel knows more of its place in the picture.
+        pub struct ModularChannel {
+            pub data: Image<i32>,
+        }
+
+        pub mod transforms {
+            /// In the order of document 01's numbers, 0 to 6.
+            #[derive(Clone, Copy, Debug, PartialEq)]
+            pub enum RctOp {
+                Noop,
+                AddFirstToThird,
+                AddFirstToSecond,
+                AddFirstToSecondAndThird,
+                AddAvgToSecond,
+                AddFirstToThirdAndAvgToSecond,
+                YCoCg,
+            }
+
+            /// In the order of document 01's numbers, 0 to 5.
+            #[derive(Clone, Copy, Debug, PartialEq)]
+            pub enum RctPermutation {
+                Rgb,
+                Gbr,
+                Brg,
+                Rbg,
+                Grb,
+                Bgr,
+            }
+        }
+    }
 }
 
 pub mod predict {
@@ -138,5 +189,46 @@ pub mod predict {
             };
             Self { left, top, toptop, topleft, topright, leftleft, toprightright }
         }
+    }
+}
+
+pub mod rct {
+    include!("../target/oracle/decoder/frame/modular/transforms/rct.rs");
+
+    // The rest is the oracle's own.
+
+    pub const OPERATIONS: [RctOp; 7] = {
+        use RctOp::*;
+        [
+            Noop,
+            AddFirstToThird,
+            AddFirstToSecond,
+            AddFirstToSecondAndThird,
+            AddAvgToSecond,
+            AddFirstToThirdAndAvgToSecond,
+            YCoCg,
+        ]
+    };
+    pub const ORDERS: [RctPermutation; 6] = {
+        use RctPermutation::*;
+        [Rgb, Gbr, Brg, Rbg, Grb, Bgr]
+    };
+
+    /// Every operation in every order, by their numbers.
+    pub fn steps() -> impl Iterator<Item = (u32, u32)> {
+        (0..7).flat_map(|operation| (0..6).map(move |order| (operation, order)))
+    }
+
+    /// What becomes of three planes of packed rows of one size.
+    pub fn restored(
+        planes: [&[i32]; 3],
+        size: (usize, usize),
+        operation: u32,
+        order: u32,
+    ) -> [Vec<i32>; 3] {
+        let mut channels = planes.map(|p| ModularChannel { data: Image::of(size, p.to_vec()) });
+        let (operation, order) = (OPERATIONS[operation as usize], ORDERS[order as usize]);
+        do_rct_step(&mut channels.each_mut(), operation, order);
+        channels.map(|mut channel| channel.data.cells().to_vec())
     }
 }

@@ -43,6 +43,10 @@ unsafe extern "C" {
         toptop: *const i32, toptop_len: usize, y: usize, p: u32, wp_pred: i64,
         guesses: *mut i64, guesses_len: usize,
     ) -> u32;
+    fn matuviso_do_rct_step(
+        a: *mut i32, a_len: usize, b: *mut i32, b_len: usize, c: *mut i32, c_len: usize,
+        operation: u32, order: u32,
+    ) -> u32;
 }
 
 // In each call below a pointer and its length come from one slice, which lives through the call.
@@ -88,6 +92,16 @@ pub fn guess_row(rows: Rows, y: usize, p: u32, wp_pred: i64, guesses: &mut [i64]
         matuviso_guess_row(
             row.as_ptr(), row.len(), top.as_ptr(), top.len(), toptop.as_ptr(), toptop.len(),
             y, p, wp_pred, guesses.as_mut_ptr(), guesses.len(),
+        )
+    }
+}
+
+#[inline(always)]
+pub fn do_rct_step([a, b, c]: [&mut [i32]; 3], operation: u32, order: u32) -> u32 {
+    unsafe {
+        matuviso_do_rct_step(
+            a.as_mut_ptr(), a.len(), b.as_mut_ptr(), b.len(), c.as_mut_ptr(), c.len(),
+            operation, order,
         )
     }
 }

@@ -73,4 +73,16 @@ impl Random {
             _ => a.wrapping_add(self.below(7) as i32 - 3),
         })
     }
+
+    /// The three words of a pixel: of `word`, of anything, around 0, or around both ends,
+    /// which lie side by side modulo 2^32.
+    pub fn three(&mut self) -> [i32; 3] {
+        let kind = self.below(4);
+        std::array::from_fn(|_| match kind {
+            0 => self.word(),
+            1 => self.next() as i32,
+            2 => self.below(512) as i32 - 256,
+            _ => i32::MIN.wrapping_add(self.below(512) as i32 - 256),
+        })
+    }
 }

@@ -5,6 +5,7 @@
 mod random;
 
 use decoder::predict::{PredictionData, Predictor, private_error_weight};
+use decoder::rct;
 use decoder::util::floor_log2_nonzero;
 use random::{Random, SEED};
 
@@ -14,7 +15,7 @@ const MAX: i32 = i32::MAX;
 /// The records, 32 words each, and how many there are of each kind.
 struct Records {
     bytes: Vec<u8>,
-    counts: [u32; 6],
+    counts: [u32; 7],
 }
 
 impl Records {
@@ -30,17 +31,24 @@ impl Records {
 
 fn main() {
     let path = std::env::args().nth(1).expect("the file to write");
-    let mut records = Records { bytes: Vec::new(), counts: [0; 6] };
+    let mut records = Records { bytes: Vec::new(), counts: [0; 7] };
     let random = &mut Random::new(12);
     highest_bits(&mut records, random);
     error_weights(&mut records, random);
     neighbours(&mut records, random);
     shortcuts(&mut records, random);
     guesses(&mut records, random);
+    colours(&mut records, random);
     std::fs::write(&path, &records.bytes).expect("a file that can be written");
     println!("seed {SEED:#x}; {} bytes", records.bytes.len());
-    let names =
-        ["floor_log2_nonzero", "error_weight", "get_rows", "update_for_interior_row", "predict_one"];
+    let names = [
+        "floor_log2_nonzero",
+        "error_weight",
+        "get_rows",
+        "update_for_interior_row",
+        "predict_one",
+        "do_rct_step",
+    ];
     for (kind, name) in (1..).zip(names) {
         println!("kind {kind} {name:<24}{:>5} records", records.counts[kind]);
     }
@@ -144,6 +152,43 @@ fn guesses(records: &mut Records, random: &mut Random) {
         for p in 0..Predictor::NUM_PREDICTORS {
             let guess = Predictor::try_from(p).unwrap().predict_one(PredictionData::of(&seven), wp_pred);
             records.add(5, &[&[p as i32], &seven, &halves(wp_pred), &halves(guess)]);
+        }
+    }
+}
+
+/// Planes of one to four triples, every operation in every order: the edges, then any.
+fn colours(records: &mut Records, random: &mut Random) {
+    // Document 01's own; sums and halves that wrap; odd numbers on both sides of 0, which halving
+    // must round down; the ends; words all different, so that each order shows.
+    #[rustfmt::skip]
+    let edges = [
+        [100, 7, -3], [5, 0, -8], [MAX, 0, 1], [1, 2, 3],
+        [0, 0, 0], [0, 0, 1], [0, 1, 0], [1, 0, 0],
+        [0, 0, -1], [0, -1, 0], [-1, 0, 0], [-1, -1, -1],
+        [-3, 0, 0], [0, -3, 0], [0, 0, -3], [-2, 5, -1],
+        [MIN, MIN, MIN], [MAX, MAX, MAX], [MIN, MAX, 0], [MAX, MIN, -1],
+        [MIN, 0, -1], [MIN, 1, MAX], [MAX, -1, MIN], [0, MIN, MAX],
+        [0, MAX, MIN], [-1, MAX, MIN], [1 << 30, 0, 1 << 30], [-1 << 30, 0, (-1 << 30) - 1],
+        [1, MAX, MIN + 1], [MAX - 1, MIN + 1, 2],
+    ];
+    for (operation, order) in rct::steps() {
+        let mut triples = edges.to_vec();
+        triples.resize_with(40, || random.three());
+        let mut rest = triples.as_slice();
+        for n in [1, 2, 3, 4].repeat(4) {
+            let (some, later) = rest.split_at(n);
+            rest = later;
+            let mut before = [[0; 4]; 3];
+            for (k, triple) in some.iter().enumerate() {
+                (0..3).for_each(|plane| before[plane][k] = triple[plane]);
+            }
+            let planes = before.each_ref().map(|plane| &plane[..n]);
+            let mut after = [[0; 4]; 3];
+            for (words, restored) in after.iter_mut().zip(rct::restored(planes, (n, 1), operation, order)) {
+                words[..n].copy_from_slice(&restored);
+            }
+            let head = [operation as i32, order as i32, n as i32];
+            records.add(6, &[&head, before.as_flattened(), after.as_flattened()]);
         }
     }
 }

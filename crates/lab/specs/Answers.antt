@@ -6,8 +6,9 @@ use Prim.Native.Nat.{ℕ}
 use lib.Dec.{ltb}
 use lib.IntN.{ℤ, pos, negℤ}
 use lib.ListN.{length, getD, drop}
+use Rattle.colour.specs.Restore.{outcome, after, first, second, third}
 use Rattle.integer.specs.Order.{if}
-use Rattle.refusal.specs.Paper.{Outcome, gives, refuses}
+use Rattle.refusal.specs.Paper.{Outcome, gives, refuses, one-value}
 use Rattle.predict.specs.Neighbours.{shortcut}
 use Rattle.predict.specs.Predictors.{numbered, guess}
 use Rattle.predict.specs.declared.neighbours.PredictionData.{PredictionData}
@@ -75,3 +76,36 @@ guessAfter (Is p) old wp words =
 pub record Guesses (p : ℕ) (old : List ℤ) (wp : ℤ) (words : List ℤ) (r : ℕ) (end : List ℤ) : Type 0 where
   pub answers : r ≡ guessStatus (numbered p) old words
   pub holds : end ≡ guessAfter (numbered p) old wp words
+
+-- ---- a step of colour restore
+
+abbrev pub doneOr : Outcome Unit → ℕ
+doneOr (gives done) = 0
+doneOr (refuses number details) = number
+
+pub record Steps (operation order : ℕ) (a b c : List ℤ) (r : ℕ) (a′ b′ c′ : List ℤ) : Type 0 where
+  pub answers : r ≡ doneOr (outcome operation order a b c)
+  pub holds-a : a′ ≡ after first operation order a b c (outcome operation order a b c) a
+  pub holds-b : b′ ≡ after second operation order a b c (outcome operation order a b c) b
+  pub holds-c : c′ ≡ after third operation order a b c (outcome operation order a b c) c
+
+-- ---- determinacy
+
+pub puts-seven-determined : {o : Outcome PredictionData} {w : List ℤ} {r s : ℕ} {x y : List ℤ} → PutsSeven o w r x → PutsSeven o w s y → (r ≡ s) × (x ≡ y)
+puts-seven-determined p q = (one-value (p .answers) (q .answers), one-value (p .holds) (q .holds))
+
+pub shifts-determined : (old top toptop : List ℤ) (x : ℕ) (cur : ℤ) (needsTop needsToptop : Bool) (w : List ℤ) {r s : ℕ} {u v : List ℤ}
+    → Shifts old top toptop x cur needsTop needsToptop w r u → Shifts old top toptop x cur needsTop needsToptop w s v → (r ≡ s) × (u ≡ v)
+shifts-determined old top toptop x cur needsTop needsToptop w p q = (one-value (p .answers) (q .answers), one-value (p .holds) (q .holds))
+
+pub guesses-determined : (n : ℕ) (old : List ℤ) (wp : ℤ) (w : List ℤ) {r s : ℕ} {u v : List ℤ} → Guesses n old wp w r u → Guesses n old wp w s v → (r ≡ s) × (u ≡ v)
+guesses-determined n old wp w p q = (one-value (p .answers) (q .answers), one-value (p .holds) (q .holds))
+
+pub steps-determined : (operation order : ℕ) (a b c : List ℤ) {r s : ℕ} {a′ b′ c′ a″ b″ c″ : List ℤ}
+    → Steps operation order a b c r a′ b′ c′ → Steps operation order a b c s a″ b″ c″ → (r ≡ s) × (a′ ≡ a″) × (b′ ≡ b″) × (c′ ≡ c″)
+steps-determined operation order a b c p q = (
+  one-value (p .answers) (q .answers),
+  one-value (p .holds-a) (q .holds-a),
+  one-value (p .holds-b) (q .holds-b),
+  one-value (p .holds-c) (q .holds-c),
+)

@@ -13,8 +13,11 @@ ghost use Rattle.lab.specs.Answers.{
   dataOf,
   putSeven,
   putStatus,
+  Steps,
 };
 use arith::Weight;
+use colour::restore::Restored;
+use colour::restore::do_rct_step;
 use predict::neighbours::Neighbourhood;
 use predict::neighbours::PredictionData;
 use predict::predictors::Numbered;
@@ -139,5 +142,23 @@ pub extern "C" fn matuviso_predict_one(p: u32, data: &[i32], wp_pred: i64, guess
             0
         }
         Numbered::NoSuch => 3,
+    }
+}
+
+// One step of colour restore over the three planes.
+#[no_mangle]
+pub extern "C" fn matuviso_do_rct_step(
+    a: &mut [i32],
+    b: &mut [i32],
+    c: &mut [i32],
+    operation: u32,
+    order: u32,
+) -> u32
+    ensures { λ r. ⌜ Steps operation order (now (a .entry)) (now (b .entry)) (now (c .entry)) r (now (a .exit)) (now (b .exit)) (now (c .exit)) ⌝ }
+{
+    let step = do_rct_step(a, b, c, operation, order);
+    match step {
+        Restored::Done => 0,
+        Restored::Refused(refusal) => refusal.number(),
     }
 }
