@@ -17,11 +17,15 @@ fn answered(found: Neighbourhood) {
     }
 }
 
-fn get_rows(row: &[i32], above: &[i32], above2: &[i32], x: usize, y: usize) {
-    print::text(b"get_rows");
+fn lengths(row: &[i32], above: &[i32], above2: &[i32]) {
     print::named(b"width", row.len() as u64);
     print::named(b"above", above.len() as u64);
     print::named(b"above2", above2.len() as u64);
+}
+
+fn get_rows(row: &[i32], above: &[i32], above2: &[i32], x: usize, y: usize) {
+    print::text(b"get_rows");
+    lengths(row, above, above2);
     print::named(b"x", x as u64);
     print::named(b"y", y as u64);
     answered(predict::neighbours::get_rows(row, above, above2, x, y));
@@ -56,11 +60,11 @@ fn shortcut(
 }
 
 // The first row: every neighbour comes from the row, or is 0.
-fn first_row(row: &[i32]) {
-    get_rows(row, &[], &[], 0, 0);
-    get_rows(row, &[], &[], 1, 0);
-    get_rows(row, &[], &[], 2, 0);
-    get_rows(row, &[], &[], 4, 0);
+fn first_row(row: &[i32], none: &[i32]) {
+    get_rows(row, none, none, 0, 0);
+    get_rows(row, none, none, 1, 0);
+    get_rows(row, none, none, 2, 0);
+    get_rows(row, none, none, 4, 0);
 }
 
 // The second row: what lies two above falls back to the row above, also where such a row is lent.
@@ -163,7 +167,7 @@ fn needs(above: &[i32], above2: &[i32], three: &[i32], two: &[i32]) {
 }
 
 // One cell more than the widest row has; the last five are numbered.
-fn wide() -> [i32; 65537]
+pub fn wide() -> [i32; 65537]
     ensures { λ r. ⌜ 65537 ≡ length r ⌝ }
 {
     let mut cells = [0; 65537];
@@ -212,17 +216,21 @@ fn side_by_side(row: &[i32], above: &[i32], above2: &[i32], y: usize) {
     get_rows(row, above, above2, 2, y);
 }
 
+fn fetches_of(row: &[i32], above: &[i32], above2: &[i32]) {
+    first_row(row, &[]);
+    second_row(row, above, above2);
+    third_row(row, above, above2);
+    positions(row, above, above2);
+    // At y = 1 the two differ in toptop, which the shortcut reads from the row lent; from y = 2 on they are equal.
+    side_by_side(row, above, above2, 1);
+    side_by_side(row, above, above2, 2);
+}
+
 fn fetches() {
     let row = [11, 12, 13, 14, 15];
     let above = [21, 22, 23, 24, 25];
     let above2 = [31, 32, 33, 34, 35];
-    first_row(&row);
-    second_row(&row, &above, &above2);
-    third_row(&row, &above, &above2);
-    positions(&row, &above, &above2);
-    // At y = 1 the two differ in toptop, which the shortcut reads from the row lent; from y = 2 on they are equal.
-    side_by_side(&row, &above, &above2, 1);
-    side_by_side(&row, &above, &above2, 2);
+    fetches_of(&row, &above, &above2);
 }
 
 fn shortcuts() {

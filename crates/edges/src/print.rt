@@ -48,12 +48,18 @@ pub fn answer(n: i64) {
     text(b"\n");
 }
 
-pub fn refused(refusal: Refusal) {
+pub fn refusal(refusal: Refusal) {
     text(b": refused ");
     natural(refusal.number() as u64);
     text(b" (");
     natural(refusal.first_detail() as u64);
-    text(b")\n");
+    text(b")");
+}
+
+// The end of a line whose answer is a refusal.
+pub fn refused(given: Refusal) {
+    refusal(given);
+    text(b"\n");
 }
 
 pub fn seven(data: PredictionData) {
@@ -64,4 +70,18 @@ pub fn seven(data: PredictionData) {
     named_word(b"topright", data.topright);
     named_word(b"leftleft", data.leftleft);
     named_word(b"toprightright", data.toprightright);
+}
+
+// The words of a plane, as `[3 -1]`.
+pub fn words(plane: &[i32]) {
+    text(b"[");
+    let mut i = 0;
+    while i < plane.len() {
+        if 0 < i {
+            text(b" ");
+        }
+        word(plane[i]);
+        i += 1;
+    }
+    text(b"]");
 }

@@ -5,10 +5,13 @@
 // 4 update_for_interior_row: word 1 the length of both rows above, at most 6; 2 x; 3 the pixel; 4 what is needed, 1 top and
 //   2 toptop; 5.. the seven before; 12.. the row above; 18.. the one above that; 24.. the seven
 // 5 predict_one: word 1 the predictor; 2.. the seven; 9, 10 the weighted guess; 11, 12 the answer
+// 6 do_rct_step: word 1 the operation; 2 the order; 3 the number of triples, 1 to 4; 4.. the first plane; 8.. the second;
+//   12.. the third; 16.., 20.. and 24.. the three afterwards
 ghost use Prim.Native.Nat.{_+_, _≤_};
 ghost use lib.ListN.{length};
 use crate::words;
 use arith::Weight;
+use colour::restore::Restored;
 use predict::neighbours::Neighbourhood;
 use predict::neighbours::PredictionData;
 use predict::predictors::Numbered;
@@ -130,6 +133,46 @@ fn predict_one(bytes: &[u8]) -> Outcome
     }
 }
 
+// Whether the words of a plane are those from k on, up to the fourth.
+fn plane_is(plane: &[i32], bytes: &[u8], k: usize) -> bool
+    requires { ⌜ (128 ≤ length (now bytes)) × (k + 4 ≤ 32) ⌝ }
+{
+    let n = plane.len();
+    (n < 1 || plane[0] == words::word(bytes, k))
+        && (n < 2 || plane[1] == words::word(bytes, k + 1))
+        && (n < 3 || plane[2] == words::word(bytes, k + 2))
+        && (n < 4 || plane[3] == words::word(bytes, k + 3))
+}
+
+fn restored(a: &mut [i32], b: &mut [i32], c: &mut [i32], bytes: &[u8]) -> Outcome
+    requires { ⌜ 128 ≤ length (now bytes) ⌝ }
+{
+    let operation = words::bits(bytes, 1);
+    let order = words::bits(bytes, 2);
+    match colour::restore::do_rct_step(a, b, c, operation, order) {
+        Restored::Done => told(
+            plane_is(a, bytes, 16) && plane_is(b, bytes, 20) && plane_is(c, bytes, 24),
+        ),
+        Restored::Refused(_) => Outcome::Refused,
+    }
+}
+
+fn do_rct_step(bytes: &[u8]) -> Outcome
+    requires { ⌜ 128 ≤ length (now bytes) ⌝ }
+{
+    let n = words::bits(bytes, 3) as usize;
+    if n < 1 {
+        return Outcome::NoForm;
+    }
+    if 4 < n {
+        return Outcome::NoForm;
+    }
+    let mut a = words::plane(bytes, 4);
+    let mut b = words::plane(bytes, 8);
+    let mut c = words::plane(bytes, 12);
+    restored(&mut a[0..n], &mut b[0..n], &mut c[0..n], bytes)
+}
+
 // Whether the library's answer is the record's.
 pub fn hold(bytes: &[u8]) -> Outcome
     requires { ⌜ 128 ≤ length (now bytes) ⌝ }
@@ -140,6 +183,7 @@ pub fn hold(bytes: &[u8]) -> Outcome
         3 => get_rows(bytes),
         4 => update_for_interior_row(bytes),
         5 => predict_one(bytes),
+        6 => do_rct_step(bytes),
         _ => Outcome::NoForm,
     }
 }

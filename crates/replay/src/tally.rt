@@ -6,6 +6,7 @@ pub struct Tally {
     pub get_rows: u64,
     pub update: u64,
     pub predict_one: u64,
+    pub do_rct_step: u64,
 }
 
 fn one_more(n: u64) -> u64 {
@@ -21,6 +22,7 @@ impl Tally {
             get_rows: 0,
             update: 0,
             predict_one: 0,
+            do_rct_step: 0,
         }
     }
 
@@ -43,6 +45,9 @@ impl Tally {
             5 => {
                 self.predict_one = one_more(self.predict_one);
             }
+            6 => {
+                self.do_rct_step = one_more(self.do_rct_step);
+            }
             _ => {}
         }
         self
@@ -54,6 +59,7 @@ impl Tally {
         line(b"get_rows: ", self.get_rows);
         line(b"update_for_interior_row: ", self.update);
         line(b"predict_one: ", self.predict_one);
+        line(b"do_rct_step: ", self.do_rct_step);
     }
 }
 

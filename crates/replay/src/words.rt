@@ -55,6 +55,19 @@ pub fn row(bytes: &[u8], k: usize) -> [i32; 6]
     ]
 }
 
+// Four words from k on: the cells of a plane.
+pub fn plane(bytes: &[u8], k: usize) -> [i32; 4]
+    requires { ⌜ (128 ≤ length (now bytes)) × (k + 4 ≤ 32) ⌝ }
+    ensures { λ r. ⌜ 4 ≡ length r ⌝ }
+{
+    [
+        word(bytes, k),
+        word(bytes, k + 1),
+        word(bytes, k + 2),
+        word(bytes, k + 3),
+    ]
+}
+
 // Seven words from k on: the neighbours, in their order.
 pub fn seven(bytes: &[u8], k: usize) -> PredictionData
     requires { ⌜ (128 ≤ length (now bytes)) × (k + 7 ≤ 32) ⌝ }

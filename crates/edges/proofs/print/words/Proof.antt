@@ -1,0 +1,75 @@
+-- `words` is safe and ends: the loop's own test bounds each index, and what is left falls. Nothing has to hold from turn to turn.
+use borrow.Author.Needs.{needs}
+use Prim.Native.Nat.{_-_}
+use lib.ListN.{length}
+use Rattle.edges.proofs.print.words.Statement.{statement}
+use Rattle.edges.proofs.print.words.Tie as tie
+
+abbrev Inv-loop : tie.InvT-loop
+Inv-loop plane i₀ t5 t6 i = Unit {0}
+
+abbrev μ-loop : tie.MeasureT-loop
+μ-loop plane i₀ t5 t6 i = length plane - i
+
+slice-aggregate-text : tie.Need-slice-aggregate-text Inv-loop μ-loop
+slice-aggregate-text c = search needs
+
+text-requires : tie.Need-text-requires Inv-loop μ-loop
+text-requires c κs = search needs
+
+loop-holds : tie.Need-loop-holds Inv-loop μ-loop
+loop-holds c = search needs
+
+slice-aggregate-text-2 : tie.Need-slice-aggregate-text-2 Inv-loop μ-loop
+slice-aggregate-text-2 c = search needs
+
+text-requires-2 : tie.Need-text-requires-2 Inv-loop μ-loop
+text-requires-2 c κs = search needs
+
+mul-word : tie.Need-mul-word Inv-loop μ-loop
+mul-word c = search needs
+
+shared-slice-copy-out-word : tie.Need-shared-slice-copy-out-word Inv-loop μ-loop
+shared-slice-copy-out-word c = search needs
+
+word-requires : tie.Need-word-requires Inv-loop μ-loop
+word-requires c κs = search needs
+
+add-i : tie.Need-add-i Inv-loop μ-loop
+add-i c = search needs
+
+loop-less : tie.Need-loop-less Inv-loop μ-loop
+loop-less c = search needs
+
+loop-again : tie.Need-loop-again Inv-loop μ-loop
+loop-again c = search needs
+
+slice-aggregate-text-3 : tie.Need-slice-aggregate-text-3 Inv-loop μ-loop
+slice-aggregate-text-3 c = search needs
+
+text-requires-3 : tie.Need-text-requires-3 Inv-loop μ-loop
+text-requires-3 c κs = search needs
+
+returns : tie.Need-returns Inv-loop μ-loop
+returns c = search needs
+
+pub words-spec : {M : Type 1} → statement M
+words-spec =
+    tie.close
+    (tie.spec
+    Inv-loop
+    μ-loop
+    slice-aggregate-text
+    text-requires
+    loop-holds
+    slice-aggregate-text-2
+    text-requires-2
+    mul-word
+    shared-slice-copy-out-word
+    word-requires
+    add-i
+    loop-less
+    loop-again
+    slice-aggregate-text-3
+    text-requires-3
+    returns)
