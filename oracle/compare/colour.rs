@@ -108,11 +108,11 @@ fn edges() {
 }
 
 fn random_planes() {
-    let mut tally = Tally::new("do_rct_step, random triples");
-    let random = &mut Random::new(14);
+    let mut tally = Tally::new("do_rct_step, 10 million random triples");
+    let len = 10_000_000;
+    let planes = Planes::any(&mut Random::new(14), len);
     for (operation, order) in rct::steps() {
-        let len = 10_000_000usize.div_ceil(42);
-        check(&mut tally, &Planes::any(random, len), [len; 3], 1, operation, order);
+        check(&mut tally, &planes, [len; 3], 1, operation, order);
     }
 }
 
