@@ -137,28 +137,18 @@ pub mod frame {
         }
 
         pub mod transforms {
-            /// In the order of document 01's numbers, 0 to 6.
-            #[derive(Clone, Copy, Debug, PartialEq)]
-            pub enum RctOp {
-                Noop,
-                AddFirstToThird,
-                AddFirstToSecond,
-                AddFirstToSecondAndThird,
-                AddAvgToSecond,
-                AddFirstToThirdAndAvgToSecond,
-                YCoCg,
+            /// An enum, and all of it in the order of document 01's numbers.
+            macro_rules! numbered {
+                ($name:ident, $all:ident: $($case:ident),*) => {
+                    #[derive(Clone, Copy, Debug, PartialEq)]
+                    pub enum $name { $($case),* }
+                    pub const $all: &[$name] = &[$($name::$case),*];
+                };
             }
 
-            /// In the order of document 01's numbers, 0 to 5.
-            #[derive(Clone, Copy, Debug, PartialEq)]
-            pub enum RctPermutation {
-                Rgb,
-                Gbr,
-                Brg,
-                Rbg,
-                Grb,
-                Bgr,
-            }
+            numbered!(RctOp, OPERATIONS: Noop, AddFirstToThird, AddFirstToSecond, AddFirstToSecondAndThird,
+                AddAvgToSecond, AddFirstToThirdAndAvgToSecond, YCoCg);
+            numbered!(RctPermutation, ORDERS: Rgb, Gbr, Brg, Rbg, Grb, Bgr);
         }
     }
 }
@@ -197,22 +187,7 @@ pub mod rct {
 
     // The rest is the oracle's own.
 
-    pub const OPERATIONS: [RctOp; 7] = {
-        use RctOp::*;
-        [
-            Noop,
-            AddFirstToThird,
-            AddFirstToSecond,
-            AddFirstToSecondAndThird,
-            AddAvgToSecond,
-            AddFirstToThirdAndAvgToSecond,
-            YCoCg,
-        ]
-    };
-    pub const ORDERS: [RctPermutation; 6] = {
-        use RctPermutation::*;
-        [Rgb, Gbr, Brg, Rbg, Grb, Bgr]
-    };
+    pub use crate::frame::modular::transforms::{OPERATIONS, ORDERS};
 
     /// Every operation in every order, by their numbers.
     pub fn steps() -> impl Iterator<Item = (u32, u32)> {
