@@ -1,5 +1,4 @@
 // Module 1: the highest set bit, the division lookup, the weight of an error.
-use crate::print;
 use arith::Weight;
 
 fn floor_log2(x: u64) {

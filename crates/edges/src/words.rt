@@ -1,5 +1,4 @@
 // 32-bit words: where a sum, a difference or a magnitude wraps, and how far a shift goes.
-use crate::print;
 
 fn low_word(x: i64) {
     print::text(b"low_word ");

@@ -1,11 +1,15 @@
-// Lines on standard output.
+// What the edge programs print with: numbers, refusals, neighbourhoods and planes, on standard output. No contract can say
+// which bytes a call of C's writes, so the functions have none: each is proved safe, and to end, for any arguments. What a
+// program wrote is compared with its file `stdout`. No function tells that a write failed; the comparison finds it.
 use predict::neighbours::PredictionData;
 use refusal::Refusal;
 
+// The bytes as they are.
 pub fn text(bytes: &[u8]) {
     io::write_all(libc::STDOUT_FILENO, bytes);
 }
 
+// n in decimal.
 pub fn natural(n: u64) {
     io::print_decimal(libc::STDOUT_FILENO, n);
 }
@@ -15,6 +19,7 @@ fn magnitude(n: i64) -> u64 {
     if n < 0 { (-1 - n) as u64 + 1 } else { n as u64 }
 }
 
+// n in decimal, with a minus where it is negative.
 pub fn signed(n: i64) {
     if n < 0 {
         text(b"-");
@@ -22,6 +27,7 @@ pub fn signed(n: i64) {
     natural(magnitude(n));
 }
 
+// The same of a 32-bit word.
 pub fn word(n: i32) {
     signed(integer::widen(n));
 }
@@ -34,6 +40,7 @@ pub fn named(name: &[u8], n: u64) {
     natural(n);
 }
 
+// A name with its word, as ` cur=-3`.
 pub fn named_word(name: &[u8], n: i32) {
     text(b" ");
     text(name);
@@ -48,6 +55,7 @@ pub fn answer(n: i64) {
     text(b"\n");
 }
 
+// A refusal by its number and first detail, as `: refused 11 (0)`.
 pub fn refusal(refusal: Refusal) {
     text(b": refused ");
     natural(refusal.number() as u64);
@@ -62,6 +70,7 @@ pub fn refused(given: Refusal) {
     text(b"\n");
 }
 
+// The seven neighbours, each with its name.
 pub fn seven(data: PredictionData) {
     named_word(b"left", data.left);
     named_word(b"top", data.top);

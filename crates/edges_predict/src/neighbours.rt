@@ -2,7 +2,6 @@
 // shows where its values come from: the row holds 11 12 .., the row above 21 22 .., the row two above 31 32 ...
 ghost use mathlib.Core.Path.{_≡_};
 ghost use lib.ListN.{length};
-use crate::print;
 use predict::neighbours::Neighbourhood;
 use predict::neighbours::PredictionData;
 
@@ -167,7 +166,7 @@ fn needs(above: &[i32], above2: &[i32], three: &[i32], two: &[i32]) {
 }
 
 // One cell more than the widest row has; the last five are numbered.
-pub fn wide() -> [i32; 65537]
+fn wide() -> [i32; 65537]
     ensures { λ r. ⌜ 65537 ≡ length r ⌝ }
 {
     let mut cells = [0; 65537];

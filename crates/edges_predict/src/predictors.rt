@@ -1,6 +1,5 @@
 // Module 3: each predictor on one neighbourhood, then the sides of each choice, the rounding of the quotients and the ends
 // of the range.
-use crate::print;
 use predict::neighbours::PredictionData;
 use predict::predictors::Numbered;
 use predict::predictors::Predictor;

@@ -2,8 +2,8 @@
 use borrow.Author.Needs.{needs}
 use lib.ListN.{length-set}
 use native.Mathlib.Omega.{arith}
-use Rattle.edges.proofs.planes.write.Statement.{statement}
-use Rattle.edges.proofs.planes.write.Tie as tie
+use Rattle.edges_colour.proofs.planes.write.Statement.{statement}
+use Rattle.edges_colour.proofs.planes.write.Tie as tie
 
 returns : tie.Need-returns
 returns c = search needs

@@ -1,8 +1,6 @@
 // Module 9: a step of colour restore, with the planes before and after it, and the rows of a plane.
 ghost use mathlib.Core.Path.{_≡_};
 ghost use lib.ListN.{length};
-use crate::neighbours;
-use crate::print;
 use colour::restore::Restored;
 use colour::rows::RowCheck;
 
@@ -225,8 +223,10 @@ fn long_rows(all: &[i32])
     long_row(all, 1, 1073741824);
 }
 
+// One word more than the widest row has; only the last is not 0, so that a line shows which end it read.
 fn widest() {
-    let cells = neighbours::wide();
+    let mut cells = [0; 65537];
+    cells[65536] = 6;
     long_rows(&cells);
 }
 

@@ -2,8 +2,8 @@
 use borrow.Author.Needs.{needs}
 use Prim.Native.Nat.{_-_}
 use lib.ListN.{length}
-use Rattle.edges.proofs.print.words.Statement.{statement}
-use Rattle.edges.proofs.print.words.Tie as tie
+use Rattle.print.proofs.words.Statement.{statement}
+use Rattle.print.proofs.words.Tie as tie
 
 abbrev Inv-loop : tie.InvT-loop
 Inv-loop plane i₀ t5 t6 i = Unit {0}

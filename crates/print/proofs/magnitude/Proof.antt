@@ -11,8 +11,8 @@ use mir.Syntax.{w64}
 use mir.Val.{SFits}
 use native.Mathlib.Omega.{arith}
 use Prim.Native.Nat.{_<_, _≤_, _^_, suc}
-use Rattle.edges.proofs.print.magnitude.Statement.{statement}
-use Rattle.edges.proofs.print.magnitude.Tie as tie
+use Rattle.print.proofs.magnitude.Statement.{statement}
+use Rattle.print.proofs.magnitude.Tie as tie
 
 record Natural (z : ℤ) : Type 0 where
   fits : SFits w64 z
