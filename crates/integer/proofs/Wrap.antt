@@ -48,7 +48,7 @@ sum-bits x y = omega (arith, of-plus x y, bits-parts x, bits-parts y, bits-parts
 minus-bits : (x y : ℤ) → bitsOf (x -ℤ y) ≡ (bitsOf x + 4294967295 * bitsOf y) % 4294967296
 minus-bits x y = omega (arith, of-minus x y, bits-parts x, bits-parts y, bits-parts (x -ℤ y))
 
-bits-of-wrap : (z : ℤ) → bitsOf (wrap z) ≡ bitsOf z
+pub bits-of-wrap : (z : ℤ) → bitsOf (wrap z) ≡ bitsOf z
 bits-of-wrap z = bits-in-range (wrap z) (wrap-fits z) ∙ ofZ-toZ (bits-fit z)
 
 -- a part of a sum or of a difference may be wrapped before the whole is
