@@ -1,4 +1,5 @@
 -- Module 1 of document 01: the table's rule, the highest set bit, the error weight.
+use mathlib.Core.Bool.{_||_}
 use mathlib.Core.List.{[], _∷_}
 use mathlib.Core.Path.{_≡_, refl, ap}
 use Prim.Native.Nat.{ℕ, zero, suc, _+_, _-_, _*_, _/_, _%_, _^_}
@@ -7,8 +8,11 @@ use lib.IntN.{pos}
 use Rattle.integer.specs.Order.{if}
 use Rattle.refusal.specs.Paper.{Outcome, gives, refuses, paper, readBack, reads-back, one-answer}
 use Rattle.refusal.specs.declared.Refusal.{Refusal}
+use Rattle.arith.specs.declared.Four.{Four}
 use Rattle.arith.specs.declared.Weight.{Weight}
 use Rattle.arith.specs.declared.Weight.the-variants.{Is, Refused}
+use Rattle.arith.specs.declared.Weights.{Weights}
+use Rattle.arith.specs.declared.Weights.the-variants as weights
 
 -- entry i of the table is 2^24 / (i + 1) rounded down, i = 0 .. 63
 abbrev pub entry : ℕ → ℕ
@@ -31,9 +35,21 @@ floorLog2 n = if (eqb n 0) 127 (halvings 64 n)
 abbrev pub weightBy : ℕ → ℕ → ℕ → ℕ
 weightBy h x m = if (ltb h 5) (4 + m * entryAt x) (4 + m * entryAt (x / 2 ^ (h - 5)) / 2 ^ (h - 5))
 
+-- what an error x leaves of m
+abbrev pub weightOf : ℕ → ℕ → ℕ
+weightOf x m = weightBy (floorLog2 (x + 1)) x m
+
 -- 12 where m is over 15
 abbrev pub errorWeight : ℕ → ℕ → Outcome ℕ
-errorWeight x m = if (ltb 15 m) (refuses 12 (pos 0 ∷ [])) (gives (weightBy (floorLog2 (x + 1)) x m))
+errorWeight x m = if (ltb 15 m) (refuses 12 (pos 0 ∷ [])) (gives (weightOf x m))
+
+-- the same for each of four
+abbrev pub weightsOf : Four → Four → Four
+weightsOf x m = record { e0 = weightOf (x .e0) (m .e0); e1 = weightOf (x .e1) (m .e1); e2 = weightOf (x .e2) (m .e2); e3 = weightOf (x .e3) (m .e3) }
+
+abbrev pub errorWeights : Four → Four → Outcome Four
+errorWeights x m =
+    if (ltb 15 (m .e0) || ltb 15 (m .e1) || ltb 15 (m .e2) || ltb 15 (m .e3)) (refuses 12 (pos 0 ∷ [])) (gives (weightsOf x m))
 
 -- ---- the answer in the paper's terms, and determinacy
 
@@ -51,3 +67,18 @@ said-again (Refused refusal) = ap Refused (reads-back refusal)
 
 pub error-weight-determined : (x m : ℕ) (r s : Weight) → said r ≡ errorWeight x m → said s ≡ errorWeight x m → r ≡ s
 error-weight-determined x m r s p q = one-answer said unsaid said-again r s p q
+
+abbrev pub saidWeights : Weights → Outcome Four
+saidWeights (weights.Are w) = gives w
+saidWeights (weights.Refused refusal) = paper refusal
+
+abbrev unsaidWeights : Outcome Four → Weights
+unsaidWeights (gives w) = weights.Are w
+unsaidWeights (refuses n ds) = weights.Refused (readBack n ds)
+
+weights-again : (r : Weights) → unsaidWeights (saidWeights r) ≡ r
+weights-again (weights.Are w) = refl
+weights-again (weights.Refused refusal) = ap weights.Refused (reads-back refusal)
+
+pub error-weights-determined : {v : Outcome Four} (r s : Weights) → saidWeights r ≡ v → saidWeights s ≡ v → r ≡ s
+error-weights-determined r s p q = one-answer saidWeights unsaidWeights weights-again r s p q

@@ -1,6 +1,17 @@
 // Module 1: the division lookup, the highest set bit, and the weight of an error.
 ghost use mathlib.Core.Path.{_≡_};
-ghost use Rattle.arith.specs.Weights.{entryAt, floorLog2, errorWeight, said};
+ghost use Prim.Native.Nat.{_≤_};
+ghost use Rattle.integer.specs.Fill.{tabulate};
+ghost use Rattle.arith.specs.Weights.{
+  entry,
+  entryAt,
+  floorLog2,
+  weightOf,
+  errorWeight,
+  errorWeights,
+  said,
+  saidWeights,
+};
 use refusal::Refusal;
 
 // Entry i is 2^24 / (i + 1) rounded down: division by a number from 1 to 64 becomes a product.
@@ -91,6 +102,33 @@ pub enum Weight {
     Refused(Refusal),
 }
 
+// A number for each of the four sub-predictors: its errors, their sums, its weight.
+pub struct Four {
+    pub e0: u32,
+    pub e1: u32,
+    pub e2: u32,
+    pub e3: u32,
+}
+
+pub enum Weights {
+    Are(Four),
+    Refused(Refusal),
+}
+
+// The weight that an error x leaves of maxweight, by the table. It is lent: an array's copy is made once for all who ask.
+fn weight_by(table: &[u32], x: u32, maxweight: u32) -> u32
+    requires { ⌜ (now table ≡ tabulate entry 64) × (maxweight ≤ 15) ⌝ }
+    ensures { λ r. ⌜ r ≡ weightOf x maxweight ⌝ }
+{
+    // x + 1 in 64 bits: it does not wrap
+    let log = floor_log2_nonzero(x as u64 + 1);
+    if log < 5 {
+        return 4 + maxweight * table[(x % 64) as usize];
+    }
+    let shift = log - 5;
+    4 + ((maxweight * table[((x >> shift) % 64) as usize]) >> shift)
+}
+
 // The weight that an error x leaves of maxweight, which is at most 15.
 pub fn error_weight(x: u32, maxweight: u32) -> Weight
     ensures { λ r. ⌜ said r ≡ errorWeight x maxweight ⌝ }
@@ -98,11 +136,31 @@ pub fn error_weight(x: u32, maxweight: u32) -> Weight
     if 15 < maxweight {
         return Weight::Refused(Refusal::HeaderRange);
     }
-    // x + 1 in 64 bits: it does not wrap
-    let log = floor_log2_nonzero(x as u64 + 1);
-    if log < 5 {
-        return Weight::Is(4 + maxweight * division_entry(x));
+    let table = DIVLOOKUP;
+    Weight::Is(weight_by(&table, x, maxweight))
+}
+
+// The same for each of four.
+pub fn error_weights(x: Four, maxweight: Four) -> Weights
+    ensures { λ r. ⌜ saidWeights r ≡ errorWeights x maxweight ⌝ }
+{
+    if 15 < maxweight.e0 {
+        return Weights::Refused(Refusal::HeaderRange);
     }
-    let shift = log - 5;
-    Weight::Is(4 + ((maxweight * division_entry(x >> shift)) >> shift))
+    if 15 < maxweight.e1 {
+        return Weights::Refused(Refusal::HeaderRange);
+    }
+    if 15 < maxweight.e2 {
+        return Weights::Refused(Refusal::HeaderRange);
+    }
+    if 15 < maxweight.e3 {
+        return Weights::Refused(Refusal::HeaderRange);
+    }
+    let table = DIVLOOKUP;
+    Weights::Are(Four {
+        e0: weight_by(&table, x.e0, maxweight.e0),
+        e1: weight_by(&table, x.e1, maxweight.e1),
+        e2: weight_by(&table, x.e2, maxweight.e2),
+        e3: weight_by(&table, x.e3, maxweight.e3),
+    })
 }
