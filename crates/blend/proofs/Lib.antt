@@ -1,0 +1,3 @@
+pub mod Average
+pub mod Bounds
+pub mod Range
