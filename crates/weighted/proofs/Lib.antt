@@ -1,0 +1,4 @@
+pub mod Halves
+pub mod Allowed
+pub mod Turns
+pub mod Copied
