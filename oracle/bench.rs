@@ -1,6 +1,7 @@
 //! Times of library and Rust in one run, side by side, printed as ratios (below 1: the library is faster).
 
 mod colour;
+mod weighted;
 
 use crate::compare::predictors::rust_guess_row;
 use crate::library::{self, Rows};
@@ -16,6 +17,7 @@ pub fn all() {
     guess_rows();
     error_weights();
     colour::all();
+    weighted::all();
 }
 
 fn seconds(work: impl FnOnce()) -> f64 {

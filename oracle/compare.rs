@@ -5,6 +5,7 @@ mod arithmetic;
 mod colour;
 mod neighbours;
 pub mod predictors;
+mod weighted;
 
 use crate::random::SEED;
 use std::fmt::Debug;
@@ -16,6 +17,7 @@ pub fn all() {
     neighbours::all();
     predictors::all();
     colour::all();
+    weighted::all();
 }
 
 /// Counts the cases of one comparison and says so at its end.

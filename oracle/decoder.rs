@@ -69,6 +69,9 @@ pub mod headers {
     pub mod modular {
         use crate::error::Result;
 
+        /// Document 01's defaults, in the order of the fields.
+        pub const DEFAULTS: [u32; 11] = [16, 10, 7, 7, 7, 0, 0, 13, 12, 12, 12];
+
         /// The fields and the accessor of headers/modular.rs, without its reading from bits.
         #[derive(Debug, PartialEq, Clone)]
         pub struct WeightedHeader {
@@ -88,6 +91,11 @@ pub mod headers {
         impl WeightedHeader {
             pub fn w(&self, i: usize) -> Result<u32> {
                 Ok([self.w0, self.w1, self.w2, self.w3][i])
+            }
+
+            /// The oracle's own: of eleven values in the order of the fields, which is the library's too.
+            pub fn of(&[p1c, p2c, p3ca, p3cb, p3cc, p3cd, p3ce, w0, w1, w2, w3]: &[u32; 11]) -> Self {
+                Self { p1c, p2c, p3ca, p3cb, p3cc, p3cd, p3ce, w0, w1, w2, w3 }
             }
         }
     }
@@ -178,6 +186,37 @@ pub mod predict {
                 unreachable!()
             };
             Self { left, top, toptop, topleft, topright, leftleft, toprightright }
+        }
+    }
+
+    // What only this module sees of the state, in the library's order.
+    impl WeightedPredictorState {
+        /// The four sub-predictions and what they blend to.
+        #[inline(always)]
+        pub fn found(&self) -> [i64; 5] {
+            let [p0, p1, p2, p3] = self.prediction;
+            [p0, p1, p2, p3, self.pred]
+        }
+
+        /// The five words of a position: its error, its four sums.
+        #[inline(always)]
+        pub fn position(&self, k: usize) -> [u32; 5] {
+            let [e0, e1, e2, e3] = self.pred_errors_buffer[k];
+            [self.error[k] as u32, e0, e1, e2, e3]
+        }
+
+        #[inline(always)]
+        pub fn positions(&self) -> impl Iterator<Item = [u32; 5]> {
+            (0..self.error.len()).map(|k| self.position(k))
+        }
+
+        /// The words become these; what is carried from the last put stays, and a new state carries nothing.
+        pub fn fill(&mut self, positions: &[[u32; 5]]) {
+            assert_eq!(positions.len(), self.error.len());
+            for (k, &[error, ref sums @ ..]) in positions.iter().enumerate() {
+                self.error[k] = error as i32;
+                self.pred_errors_buffer[k] = *sums;
+            }
         }
     }
 }

@@ -47,6 +47,33 @@ unsafe extern "C" {
         a: *mut i32, a_len: usize, b: *mut i32, b_len: usize, c: *mut i32, c_len: usize,
         operation: u32, order: u32,
     ) -> u32;
+    fn matuviso_weighted_open(
+        header: *const u32, header_len: usize, width: usize, memory: *mut u32, memory_len: usize,
+    ) -> u32;
+    fn matuviso_weighted_ask(
+        header: *const u32, header_len: usize, place: *mut u64, place_len: usize,
+        found: *mut i64, found_len: usize, memory: *const u32, memory_len: usize,
+        data: *const i32, data_len: usize, answer: *mut i64, answer_len: usize,
+    ) -> u32;
+    fn matuviso_weighted_put(
+        header: *const u32, header_len: usize, place: *mut u64, place_len: usize,
+        found: *const i64, found_len: usize, memory: *mut u32, memory_len: usize, value: i32,
+    ) -> u32;
+    fn matuviso_save_state(
+        header: *const u32, header_len: usize, place: *const u64, place_len: usize,
+        found: *const i64, found_len: usize, memory: *const u32, memory_len: usize,
+        saved: *mut u32, saved_len: usize,
+    ) -> u32;
+    fn matuviso_restore_state(
+        header: *const u32, header_len: usize, place: *const u64, place_len: usize,
+        found: *const i64, found_len: usize, memory: *mut u32, memory_len: usize,
+        saved: *const u32, saved_len: usize,
+    ) -> u32;
+    fn matuviso_weigh_plane(
+        header: *const u32, header_len: usize, width: usize, data: *const i32, data_len: usize,
+        plane: *const i32, plane_len: usize, memory: *mut u32, memory_len: usize,
+        answers: *mut i64, answers_len: usize,
+    ) -> u32;
 }
 
 // In each call below a pointer and its length come from one slice, which lives through the call.
@@ -102,6 +129,81 @@ pub fn do_rct_step([a, b, c]: [&mut [i32]; 3], operation: u32, order: u32) -> u3
         matuviso_do_rct_step(
             a.as_mut_ptr(), a.len(), b.as_mut_ptr(), b.len(), c.as_mut_ptr(), c.len(),
             operation, order,
+        )
+    }
+}
+
+#[inline(always)]
+pub fn weighted_open(header: &[u32], width: usize, memory: &mut [u32]) -> u32 {
+    unsafe {
+        matuviso_weighted_open(
+            header.as_ptr(), header.len(), width, memory.as_mut_ptr(), memory.len(),
+        )
+    }
+}
+
+#[inline(always)]
+pub fn weighted_ask(
+    header: &[u32], place: &mut [u64], found: &mut [i64], memory: &[u32], data: &[i32],
+    answer: &mut [i64],
+) -> u32 {
+    unsafe {
+        matuviso_weighted_ask(
+            header.as_ptr(), header.len(), place.as_mut_ptr(), place.len(),
+            found.as_mut_ptr(), found.len(), memory.as_ptr(), memory.len(),
+            data.as_ptr(), data.len(), answer.as_mut_ptr(), answer.len(),
+        )
+    }
+}
+
+#[inline(always)]
+pub fn weighted_put(
+    header: &[u32], place: &mut [u64], found: &[i64], memory: &mut [u32], value: i32,
+) -> u32 {
+    unsafe {
+        matuviso_weighted_put(
+            header.as_ptr(), header.len(), place.as_mut_ptr(), place.len(),
+            found.as_ptr(), found.len(), memory.as_mut_ptr(), memory.len(), value,
+        )
+    }
+}
+
+#[inline(always)]
+pub fn save_state(
+    header: &[u32], place: &[u64], found: &[i64], memory: &[u32], saved: &mut [u32],
+) -> u32 {
+    unsafe {
+        matuviso_save_state(
+            header.as_ptr(), header.len(), place.as_ptr(), place.len(),
+            found.as_ptr(), found.len(), memory.as_ptr(), memory.len(),
+            saved.as_mut_ptr(), saved.len(),
+        )
+    }
+}
+
+#[inline(always)]
+pub fn restore_state(
+    header: &[u32], place: &[u64], found: &[i64], memory: &mut [u32], saved: &[u32],
+) -> u32 {
+    unsafe {
+        matuviso_restore_state(
+            header.as_ptr(), header.len(), place.as_ptr(), place.len(),
+            found.as_ptr(), found.len(), memory.as_mut_ptr(), memory.len(),
+            saved.as_ptr(), saved.len(),
+        )
+    }
+}
+
+#[inline(always)]
+pub fn weigh_plane(
+    header: &[u32], width: usize, data: &[i32], plane: &[i32], memory: &mut [u32],
+    answers: &mut [i64],
+) -> u32 {
+    unsafe {
+        matuviso_weigh_plane(
+            header.as_ptr(), header.len(), width, data.as_ptr(), data.len(),
+            plane.as_ptr(), plane.len(), memory.as_mut_ptr(), memory.len(),
+            answers.as_mut_ptr(), answers.len(),
         )
     }
 }

@@ -4,7 +4,8 @@
 #[allow(dead_code)] // the comparisons draw more
 mod random;
 
-use decoder::predict::{PredictionData, Predictor, private_error_weight};
+use decoder::headers::modular::{DEFAULTS, WeightedHeader};
+use decoder::predict::{PredictionData, Predictor, WeightedPredictorState, private_error_weight};
 use decoder::rct;
 use decoder::util::floor_log2_nonzero;
 use random::{Random, SEED};
@@ -15,7 +16,7 @@ const MAX: i32 = i32::MAX;
 /// The records, 32 words each, and how many there are of each kind.
 struct Records {
     bytes: Vec<u8>,
-    counts: [u32; 7],
+    counts: [u32; 9],
 }
 
 impl Records {
@@ -31,7 +32,7 @@ impl Records {
 
 fn main() {
     let path = std::env::args().nth(1).expect("the file to write");
-    let mut records = Records { bytes: Vec::new(), counts: [0; 7] };
+    let mut records = Records { bytes: Vec::new(), counts: [0; 9] };
     let random = &mut Random::new(12);
     highest_bits(&mut records, random);
     error_weights(&mut records, random);
@@ -39,6 +40,7 @@ fn main() {
     shortcuts(&mut records, random);
     guesses(&mut records, random);
     colours(&mut records, random);
+    weighted_pixels(&mut records, random);
     std::fs::write(&path, &records.bytes).expect("a file that can be written");
     println!("seed {SEED:#x}; {} bytes", records.bytes.len());
     let names = [
@@ -48,6 +50,8 @@ fn main() {
         "update_for_interior_row",
         "predict_one",
         "do_rct_step",
+        "predict_and_property",
+        "update_errors",
     ];
     for (kind, name) in (1..).zip(names) {
         println!("kind {kind} {name:<24}{:>5} records", records.counts[kind]);
@@ -190,5 +194,78 @@ fn colours(records: &mut Records, random: &mut Random) {
             let head = [operation as i32, order as i32, n as i32];
             records.add(6, &[&head, before.as_flattened(), after.as_flattened()]);
         }
+    }
+}
+
+/// One pixel of a weighted state, as two records that stand alone: 7 is its ask, 8 its ask and then its put.
+/// A whole memory has no room in a record, so both have what an ask reads of it: the five words of N, NE and
+/// NW, of which two may be one position, and the error of W, 0 in the first column. Of what the put writes, 8
+/// has the five words of the pixel's own position; the sums of the next position in the other half (NE, but
+/// in the last column) grow by the last four of these.
+fn weighted_pixel(
+    records: &mut Records,
+    header: &[u32; 11],
+    width: usize,
+    (x, y): (usize, usize),
+    state: &mut WeightedPredictorState,
+    seven: &[i32; 7],
+    value: i32,
+) {
+    let words = |k| state.position(k).map(|word| word as i32);
+    let (here, n) = if y % 2 == 0 { (width + 2 + x, x) } else { (x, width + 2 + x) };
+    let (ne, nw) = (if x + 1 < width { n + 1 } else { n }, if x > 0 { n - 1 } else { n });
+    let w = if x > 0 { words(here - 1)[0] } else { 0 };
+    let mut bytes = [0; 16];
+    for (byte, number) in
+        bytes.iter_mut().zip(header.iter().copied().chain([width, x, y].map(|n| n as u32)))
+    {
+        *byte = u8::try_from(number).unwrap();
+    }
+    let small = bytes.as_chunks().0.iter().map(|&four| i32::from_le_bytes(four)).collect::<Vec<_>>();
+    let inputs = [&small, &seven[..5], &[value], &words(n), &words(ne), &words(nw), &[w]].concat();
+    let (guess, property) = state.predict_and_property((x, y), width, &PredictionData::of(seven));
+    state.update_errors(value, (x, y), width);
+    records.add(7, &[&inputs, &halves(guess), &[property]]);
+    records.add(8, &[&inputs, &state.position(here).map(|word| word as i32)]);
+}
+
+/// Planes of every width to 6 from opening on; then any memory, at the ends of the range and anywhere.
+fn weighted_pixels(records: &mut Records, random: &mut Random) {
+    let most = [31, 31, 31, 31, 31, 31, 31, 15, 15, 15, 15];
+    let some_header = |random: &mut Random, kind: usize| match kind {
+        0 => DEFAULTS,
+        1 => [0; 11],
+        2 => most,
+        _ => most.map(|most| random.below(most as usize + 1) as u32),
+    };
+    for (width, filling) in (1..=6).flat_map(|width| (0..4).map(move |filling| (width, filling))) {
+        let header = some_header(random, if filling < 2 { 0 } else { filling });
+        let mut state = WeightedPredictorState::new(&WeightedHeader::of(&header), width).unwrap();
+        let plane: Vec<i32> = (0..4 * width)
+            .map(|k| match filling {
+                0 => 10 * (k % width + 1) as i32, // document 01's: width 4, put 10
+                1 => 1000 + random.below(64) as i32,
+                2 => random.one_of(&[MIN, MAX]),
+                _ => random.word(),
+            })
+            .collect();
+        for (y, x) in (0..4).flat_map(|y| (0..width).map(move |x| (y, x))) {
+            let row = |back: usize| if y < back { &[][..] } else { &plane[(y - back) * width..][..width] };
+            let seven = PredictionData::get_rows(row(0), row(1), row(2), x, y).words();
+            let value = plane[y * width + x];
+            weighted_pixel(records, &header, width, (x, y), &mut state, &seven, value);
+        }
+    }
+    for k in 0..240 {
+        let (header, width) = (some_header(random, k % 4), 1 + k % 6);
+        let mut state = WeightedPredictorState::new(&WeightedHeader::of(&header), width).unwrap();
+        let ends = random.once_in(2);
+        let any = |random: &mut Random| if ends { random.one_of(&[MIN, MAX, 0]) } else { random.word() };
+        let memory: Vec<[u32; 5]> =
+            (0..2 * (width + 2)).map(|_| [(); 5].map(|_| any(random) as u32)).collect();
+        state.fill(&memory);
+        let place = (random.below(width), random.below(4));
+        let (seven, value) = ([(); 7].map(|_| any(random)), any(random));
+        weighted_pixel(records, &header, width, place, &mut state, &seven, value);
     }
 }

@@ -94,3 +94,18 @@ pub fn words(plane: &[i32]) {
     }
     text(b"]");
 }
+
+// A number after a blank.
+fn spaced(n: u32) {
+    text(b" ");
+    natural(n as u64);
+}
+
+// Numbers one after the other, each after a blank.
+pub fn naturals(numbers: &[u32]) {
+    let mut i = 0;
+    while i < numbers.len() {
+        spaced(numbers[i]);
+        i += 1;
+    }
+}

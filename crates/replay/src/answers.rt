@@ -7,8 +7,15 @@
 // 5 predict_one: word 1 the predictor; 2.. the seven; 9, 10 the weighted guess; 11, 12 the answer
 // 6 do_rct_step: word 1 the operation; 2 the order; 3 the number of triples, 1 to 4; 4.. the first plane; 8.. the second;
 //   12.. the third; 16.., 20.. and 24.. the three afterwards
+// 7 predict_and_property: words 1 to 4 a byte each of the eleven of the header, the width, at most 6, x and y; 5.. left, top,
+//   toptop, topleft, topright; 10 the true value; 11.. the position N, its error and four sums; 16.. NE; 21.. NW; 26 the error
+//   of W; 27, 28 the guess; 29 the property
+// 8 update_errors: the same up to 26; 27.. the pixel's position after the true value is put
 ghost use Prim.Native.Nat.{_+_, _≤_};
 ghost use lib.ListN.{length};
+use crate::outcome::Outcome;
+use crate::outcome::told;
+use crate::pixels;
 use crate::words;
 use arith::Weight;
 use colour::restore::Restored;
@@ -16,24 +23,6 @@ use predict::neighbours::Neighbourhood;
 use predict::neighbours::PredictionData;
 use predict::predictors::Numbered;
 use predict::predictors::Predictor;
-
-pub enum Outcome {
-    Equal,
-    Differs,
-    Refused,
-    // no such kind, or a number that no record of its kind has
-    NoForm,
-    CutShort,
-    Unread,
-}
-
-fn told(equal: bool) -> Outcome {
-    if equal {
-        Outcome::Equal
-    } else {
-        Outcome::Differs
-    }
-}
 
 fn floor_log2(bytes: &[u8]) -> Outcome
     requires { ⌜ 128 ≤ length (now bytes) ⌝ }
@@ -184,6 +173,8 @@ pub fn hold(bytes: &[u8]) -> Outcome
         4 => update_for_interior_row(bytes),
         5 => predict_one(bytes),
         6 => do_rct_step(bytes),
+        7 => pixels::pixel(bytes, false),
+        8 => pixels::pixel(bytes, true),
         _ => Outcome::NoForm,
     }
 }

@@ -7,6 +7,8 @@ pub struct Tally {
     pub update: u64,
     pub predict_one: u64,
     pub do_rct_step: u64,
+    pub predict_and_property: u64,
+    pub update_errors: u64,
 }
 
 fn one_more(n: u64) -> u64 {
@@ -23,6 +25,8 @@ impl Tally {
             update: 0,
             predict_one: 0,
             do_rct_step: 0,
+            predict_and_property: 0,
+            update_errors: 0,
         }
     }
 
@@ -48,6 +52,12 @@ impl Tally {
             6 => {
                 self.do_rct_step = one_more(self.do_rct_step);
             }
+            7 => {
+                self.predict_and_property = one_more(self.predict_and_property);
+            }
+            8 => {
+                self.update_errors = one_more(self.update_errors);
+            }
             _ => {}
         }
         self
@@ -60,6 +70,8 @@ impl Tally {
         line(b"update_for_interior_row: ", self.update);
         line(b"predict_one: ", self.predict_one);
         line(b"do_rct_step: ", self.do_rct_step);
+        line(b"predict_and_property: ", self.predict_and_property);
+        line(b"update_errors: ", self.update_errors);
     }
 }
 

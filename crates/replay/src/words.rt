@@ -8,6 +8,13 @@ fn wide(byte: u8) -> u32 {
     byte as u32
 }
 
+// Byte k of those after word 0.
+pub fn small(bytes: &[u8], k: usize) -> u32
+    requires { ⌜ (128 ≤ length (now bytes)) × (k < 16) ⌝ }
+{
+    wide(bytes[4 + k])
+}
+
 // Word k as an unsigned number.
 pub fn bits(bytes: &[u8], k: usize) -> u32
     requires { ⌜ (128 ≤ length (now bytes)) × (k < 32) ⌝ }
