@@ -69,8 +69,9 @@ pub mod headers {
     pub mod modular {
         use crate::error::Result;
 
-        /// Document 01's defaults, in the order of the fields.
+        /// Document 01's defaults and the ends of its ranges, in the order of the fields.
         pub const DEFAULTS: [u32; 11] = [16, 10, 7, 7, 7, 0, 0, 13, 12, 12, 12];
+        pub const MOST: [u32; 11] = [31, 31, 31, 31, 31, 31, 31, 15, 15, 15, 15];
 
         /// The fields and the accessor of headers/modular.rs, without its reading from bits.
         #[derive(Debug, PartialEq, Clone)]

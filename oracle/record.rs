@@ -4,7 +4,7 @@
 #[allow(dead_code)] // the comparisons draw more
 mod random;
 
-use decoder::headers::modular::{DEFAULTS, WeightedHeader};
+use decoder::headers::modular::{DEFAULTS, MOST, WeightedHeader};
 use decoder::predict::{PredictionData, Predictor, WeightedPredictorState, private_error_weight};
 use decoder::rct;
 use decoder::util::floor_log2_nonzero;
@@ -216,12 +216,9 @@ fn weighted_pixel(
     let (ne, nw) = (if x + 1 < width { n + 1 } else { n }, if x > 0 { n - 1 } else { n });
     let w = if x > 0 { words(here - 1)[0] } else { 0 };
     let mut bytes = [0; 16];
-    for (byte, number) in
-        bytes.iter_mut().zip(header.iter().copied().chain([width, x, y].map(|n| n as u32)))
-    {
-        *byte = u8::try_from(number).unwrap();
-    }
-    let small = bytes.as_chunks().0.iter().map(|&four| i32::from_le_bytes(four)).collect::<Vec<_>>();
+    let numbers = header.iter().copied().chain([width, x, y].map(|number| number as u32));
+    bytes.iter_mut().zip(numbers).for_each(|(byte, number)| *byte = number as u8);
+    let small: Vec<i32> = bytes.as_chunks().0.iter().map(|&four| i32::from_le_bytes(four)).collect();
     let inputs = [&small, &seven[..5], &[value], &words(n), &words(ne), &words(nw), &[w]].concat();
     let (guess, property) = state.predict_and_property((x, y), width, &PredictionData::of(seven));
     state.update_errors(value, (x, y), width);
@@ -231,12 +228,11 @@ fn weighted_pixel(
 
 /// Planes of every width to 6 from opening on; then any memory, at the ends of the range and anywhere.
 fn weighted_pixels(records: &mut Records, random: &mut Random) {
-    let most = [31, 31, 31, 31, 31, 31, 31, 15, 15, 15, 15];
     let some_header = |random: &mut Random, kind: usize| match kind {
         0 => DEFAULTS,
         1 => [0; 11],
-        2 => most,
-        _ => most.map(|most| random.below(most as usize + 1) as u32),
+        2 => MOST,
+        _ => MOST.map(|most| random.below(most as usize + 1) as u32),
     };
     for (width, filling) in (1..=6).flat_map(|width| (0..4).map(move |filling| (width, filling))) {
         let header = some_header(random, if filling < 2 { 0 } else { filling });
@@ -257,7 +253,7 @@ fn weighted_pixels(records: &mut Records, random: &mut Random) {
         }
     }
     for k in 0..240 {
-        let (header, width) = (some_header(random, k % 4), 1 + k % 6);
+        let (header, width) = (some_header(random, k / 6 % 4), 1 + k % 6);
         let mut state = WeightedPredictorState::new(&WeightedHeader::of(&header), width).unwrap();
         let ends = random.once_in(2);
         let any = |random: &mut Random| if ends { random.one_of(&[MIN, MAX, 0]) } else { random.word() };

@@ -8,16 +8,13 @@ use super::neighbours::{ROWS_END, WIDEST};
 use crate::library;
 use crate::random::Random;
 use both::{Both, WORDS_END};
-use decoder::headers::modular::DEFAULTS;
+use decoder::headers::modular::{DEFAULTS, MOST};
 use decoder::image::Image;
 use decoder::predict::PredictionData;
 
 /// Words lent past those that are needed, and what they hold: a call must leave them.
 const MARGIN: usize = 3;
 const UNTOUCHED: u32 = 0x5ea1_5ea1;
-
-/// The last value in range of each of the header's eleven.
-const MOST: [u32; 11] = [31, 31, 31, 31, 31, 31, 31, 15, 15, 15, 15];
 
 pub fn all() {
     println!(
@@ -45,21 +42,9 @@ fn some_header(random: &mut Random, kind: usize) -> [u32; 11] {
         0 => DEFAULTS[k],
         1 => random.below(MOST[k] as usize + 1) as u32,
         2 => 0,
-        3 => MOST[k],
-        4 => {
-            if k == one {
-                MOST[k]
-            } else {
-                0
-            }
-        }
-        _ => {
-            if k == one {
-                0
-            } else {
-                MOST[k]
-            }
-        }
+        4 if k != one => 0,
+        5 if k == one => 0,
+        _ => MOST[k],
     })
 }
 
@@ -182,7 +167,8 @@ fn any_memory() {
     let random = &mut Random::new(22);
     for round in 0..5_000_000 {
         let width = 1 + random.below(if round % 50 == 0 { 300 } else { 8 });
-        let header = some_header(random, round % 6);
+        let kind = random.below(6);
+        let header = some_header(random, kind);
         let mut both = Both::open(header, width);
         both.fill(random);
         let anywhere = random.below(ROWS_END);
@@ -206,8 +192,8 @@ fn saved() {
     let random = &mut Random::new(23);
     for round in 0..20_000 {
         let width = 1 + random.below(if round % 20 == 0 { 300 } else { 12 });
-        let (rows, header, filling) =
-            (2 * random.below(5), some_header(random, round % 6), random.below(6));
+        let (rows, kind, filling) = (2 * random.below(5), random.below(6), random.below(6));
+        let header = some_header(random, kind);
         let plane = some_plane(random, filling, width, rows + 2);
         let mut both = Both::open(header, width);
         if random.once_in(2) {
@@ -245,8 +231,8 @@ fn decoded() {
     let random = &mut Random::new(24);
     for round in 0..30_000 {
         let width = 1 + random.below(if round % 20 == 0 { 300 } else { 12 });
-        let (rows, header, filling) =
-            (1 + random.below(12), some_header(random, round % 6), random.below(6));
+        let (rows, kind, filling) = (1 + random.below(12), random.below(6), random.below(6));
+        let header = some_header(random, kind);
         let residuals = some_plane(random, filling, width, rows);
         let mut both = Both::open(header, width);
         let (mut theirs, mut ours) = (vec![0; width * rows], vec![0; width * rows]);
@@ -264,16 +250,12 @@ fn decoded() {
                 ours[k] = guess.wrapping_add(residuals[k] as i64) as i32;
                 let put = both.put(ours[k]);
                 let at = if x + 1 == width { both.differs() } else { None };
-                tally.case(
-                    ((0, 0), theirs[k], property as i64, None),
-                    ((ask, put), ours[k], own, at),
-                    || {
-                        format!(
-                            "header {header:?}, width {width}, x {x}, y {y}, residuals {:?}",
-                            &residuals[..=k]
-                        )
-                    },
-                );
+                let (owed, given) =
+                    ((0, 0, theirs[k], property as i64, None), (ask, put, ours[k], own, at));
+                tally.case(owed, given, || {
+                    let so_far = &residuals[..=k];
+                    format!("header {header:?}, width {width}, x {x}, y {y}, residuals {so_far:?}")
+                });
             }
         }
     }

@@ -1,9 +1,10 @@
 //! What is refused: every set of faults, each in one of its forms; nothing may be written.
 
-use super::{MOST, Tally, UNTOUCHED, needed, seven, some_header, some_plane};
+use super::{Tally, UNTOUCHED, needed, seven, some_header, some_plane};
 use crate::compare::neighbours::{ROWS_END, WIDEST};
 use crate::library;
 use crate::random::Random;
+use decoder::headers::modular::MOST;
 
 /// What an ask finds lies from minus this on and below it; a put tells whether it does (13).
 const FAR: i64 = 1 << 40;
@@ -197,14 +198,10 @@ fn planes() {
         }
         let status = library::weigh_plane(&header, width, &data, &plane, &mut memory, &mut answers);
         let marks = memory.iter().map(|&word| word as i64).chain(answers);
-        let written = owed != 0 && !marks.into_iter().all(|word| word == UNTOUCHED as i64);
+        let written = owed != 0 && marks.into_iter().any(|word| word != UNTOUCHED as i64);
         tally.refused += (owed != 0) as u64;
         tally.case((owed, false), (status, written), || {
-            format!(
-                "header {header:?}, width {width}, {} words of data, {} pixels",
-                data.len(),
-                plane.len()
-            )
+            format!("fault {}, header {header:?}, width {width}, plane {plane:?}", round % 8)
         });
     }
 }
