@@ -61,7 +61,7 @@ fn last_w() {
     header(b"w0 16 alone", g);
 }
 
-// Of 30 words, and of 29.
+// With 30 words, whatever the width needs.
 fn width(width: usize) {
     print::text(b"open");
     print::named(b"width", width as u64);
@@ -71,6 +71,7 @@ fn width(width: usize) {
     told(opened);
 }
 
+// A word less than a width of 1 needs.
 fn one_short() {
     print::text(b"open width=1 of 29 words");
     let mut memory = [7u32; 29];
