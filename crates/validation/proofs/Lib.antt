@@ -1,0 +1,12 @@
+pub mod Answers
+pub mod Demand3
+pub mod Faults
+pub mod Linear
+pub mod Pending
+pub mod Ranges
+pub mod Sound
+pub mod Steps
+pub mod ToDo
+pub mod Tree
+pub mod Walk
+pub mod Words
