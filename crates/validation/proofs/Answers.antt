@@ -29,7 +29,7 @@ module _ (words work : List ℤ) where
   rest = if (eqb (length words) 0) (gives tt) (if (ltb (length work) 10762) (refuses 8 (pos 10762 ∷ [])) (visit words levels 0 allRanges))
 
   -- by the outcome of the shape check
-  abbrev answer : Outcome Unit → Outcome Unit
+  abbrev pub answer : Outcome Unit → Outcome Unit
   answer shaped = then shaped rest
 
   abbrev left : Outcome Unit → List ℤ

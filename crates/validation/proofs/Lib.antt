@@ -1,3 +1,4 @@
+pub mod Accepts
 pub mod Answers
 pub mod Demand3
 pub mod Faults
