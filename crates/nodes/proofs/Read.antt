@@ -7,11 +7,13 @@ use mathlib.Core.Bool.{Bool, true, false}
 use mathlib.Core.List.{List}
 use mathlib.Core.Path.{_≡_, refl}
 use native.Mathlib.Omega.{arith}
-use Prim.Native.Nat.{ℕ, _<_}
+use Prim.Native.Nat.{ℕ, _<_, _^_}
 use Rattle.integer.proofs.Tests.{and-left}
+use Rattle.integer.proofs.Wrap.{bits-fit}
 use Rattle.integer.specs.Order.{if}
 use Rattle.integer.specs.Word.{bitsOf}
 use Rattle.nodes.specs.Nodes.{nodeOf, word, notInForm, leafBy, leafOf, splitOf, isSplit, isMinusOne}
+use Rattle.nodes.specs.declared.Leaf.{Leaf}
 use Rattle.nodes.specs.declared.Node.the-variants as node
 use Rattle.nodes.specs.declared.Split.{Split}
 use Rattle.predict.specs.Predictors.{numbered}
@@ -37,3 +39,20 @@ property-by {s} words place false false true is e =
 pub property-small : (words : List ℤ) (place : ℕ) {s : Split} → nodeOf words place ≡ gives (node.Split s) → s .property < 256
 unfolding nodeOf
 property-small words place split = property-by words place (ltb (length words) 5) (isMinusOne (word words 0)) (isSplit words) refl split
+
+-- multiplier and id of a leaf that was read are patterns of 32 bits
+patterns-by : {l : Leaf} (words : List ℤ) (place : ℕ) (short leaf split : Bool) (number : Numbered)
+    → if short (notInForm place) (if leaf (leafBy number words place) (if split (gives (splitOf words)) (notInForm place))) ≡ gives (node.Leaf l)
+    → (l .multiplier < 2 ^ 32) × (l .id < 2 ^ 32)
+patterns-by words place true leaf split number e = absurd (no-refusal e)
+patterns-by {l} words place false true split (numbering.Is p) e =
+    let one : bitsOf (word words 3) ≡ l .multiplier = cc in
+    let other : bitsOf (word words 4) ≡ l .id = cc in
+    (omega (arith, one, bits-fit (word words 3) .fits), omega (arith, other, bits-fit (word words 4) .fits))
+patterns-by words place false true split numbering.NoSuch e = absurd (no-refusal e)
+patterns-by words place false false true number e = let z : _≡_ {A = ℕ} 0 1 = cc in absurd (omega arith)
+patterns-by words place false false false number e = absurd (no-refusal e)
+
+pub patterns-fit : (words : List ℤ) (place : ℕ) {l : Leaf} → nodeOf words place ≡ gives (node.Leaf l) → (l .multiplier < 2 ^ 32) × (l .id < 2 ^ 32)
+unfolding nodeOf
+patterns-fit words place leaf = patterns-by words place (ltb (length words) 5) (isMinusOne (word words 0)) (isSplit words) (numbered (bitsOf (word words 1))) leaf
