@@ -1,6 +1,7 @@
 //! Times of library and Rust in one run, side by side, printed as ratios (below 1: the library is faster).
 
 mod colour;
+mod tree;
 mod weighted;
 
 use crate::compare::predictors::rust_guess_row;
@@ -18,6 +19,7 @@ pub fn all() {
     error_weights();
     colour::all();
     weighted::all();
+    tree::all();
 }
 
 fn seconds(work: impl FnOnce()) -> f64 {

@@ -2,9 +2,11 @@
 //! The first difference is printed with its inputs and ends the run with status 1.
 
 mod arithmetic;
+pub mod cells;
 mod colour;
 mod neighbours;
 pub mod predictors;
+pub mod tree;
 mod weighted;
 
 use crate::random::SEED;
@@ -18,6 +20,8 @@ pub fn all() {
     predictors::all();
     colour::all();
     weighted::all();
+    cells::all();
+    tree::all();
 }
 
 /// Counts the cases of one comparison and says so at its end.

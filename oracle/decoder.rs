@@ -16,12 +16,7 @@ mod fast_math;
 fn eval_rational_poly(_: f32, _: [f32; 3], _: [f32; 3]) -> f32 {
     unimplemented!("a stand-in")
 }
-fn eval_rational_poly_simd<D: SimdDescriptor>(
-    _: D,
-    _: D::F32Vec,
-    _: [f32; 3],
-    _: [f32; 3],
-) -> D::F32Vec {
+fn eval_rational_poly_simd<D: SimdDescriptor>(_: D, _: D::F32Vec, _: [f32; 3], _: [f32; 3]) -> D::F32Vec {
     unimplemented!("a stand-in")
 }
 
@@ -42,8 +37,81 @@ pub mod util {
         }
     }
 
+    pub trait NewWithCapacity: Sized {
+        fn new_with_capacity(capacity: usize) -> Result<Self, TryReserveError>;
+    }
+
+    impl<T> NewWithCapacity for Vec<T> {
+        fn new_with_capacity(capacity: usize) -> Result<Self, TryReserveError> {
+            let mut all = Vec::new();
+            all.try_reserve(capacity)?;
+            Ok(all)
+        }
+    }
+
+    /// Has room for anything.
+    pub struct MemoryTracker;
+
+    impl MemoryTracker {
+        pub fn check_alloc(&self, _: u64) -> crate::error::Result<()> {
+            Ok(())
+        }
+    }
+
     pub mod tracing_wrappers {
         pub use tracing::instrument;
+
+        macro_rules! trace {
+            ($($said:tt)*) => {};
+        }
+        pub(crate) use trace;
+    }
+}
+
+/// In place of a stream of bits: the symbols that the reader below is to hand out, and how many it has.
+pub mod bit_reader {
+    pub struct BitReader<'a> {
+        pub symbols: &'a [u32],
+        pub asked: usize,
+    }
+}
+
+pub mod entropy_coding {
+    pub mod decode {
+        use crate::bit_reader::BitReader;
+        use crate::error::Result;
+
+        pub struct Histograms;
+
+        impl Histograms {
+            pub fn decode(_: usize, _: &mut BitReader, _: bool) -> Result<Self> {
+                Ok(Histograms)
+            }
+        }
+
+        pub struct SymbolReader;
+
+        impl SymbolReader {
+            pub fn new(_: &Histograms, _: &mut BitReader, _: Option<usize>) -> Result<Self> {
+                Ok(SymbolReader)
+            }
+
+            /// The next symbol, 0 after the last: a tree of those ends.
+            pub fn read_unsigned(&mut self, _: &Histograms, br: &mut BitReader, _: usize) -> u32 {
+                let symbol = br.symbols.get(br.asked).copied().unwrap_or(0);
+                br.asked += 1;
+                symbol
+            }
+
+            /// A signed number is given as its bit pattern.
+            pub fn read_signed(&mut self, h: &Histograms, br: &mut BitReader, context: usize) -> i32 {
+                self.read_unsigned(h, br, context) as i32
+            }
+
+            pub fn check_final_state(&mut self, _: &Histograms, _: &mut BitReader) -> Result<()> {
+                Ok(())
+            }
+        }
     }
 }
 
@@ -54,6 +122,12 @@ pub mod error {
     pub enum Error {
         InvalidPredictor(u32),
         OutOfMemory(TryReserveError),
+        InvalidProperty(u32),
+        TreeTooLarge(usize, usize),
+        TreeTooTall(usize, usize),
+        TreeSplitOnEmptyRange(u8, i32, i32, i32),
+        TreeMultiplierTooLarge(u32, u32),
+        TreeMultiplierBitsTooLarge(u32, u32),
     }
 
     impl From<TryReserveError> for Error {
@@ -139,6 +213,71 @@ pub mod image {
 pub mod frame {
     pub mod modular {
         use crate::image::Image;
+        pub use crate::predict::{self, Predictor};
+
+        pub mod tree {
+            include!("../target/oracle/decoder/frame/modular/tree.rs");
+
+            // The rest is the oracle's own. What only this module sees:
+
+            #[inline(always)]
+            pub fn private_validate_tree(tree: &[TreeNode], num_properties: usize) -> Result<()> {
+                validate_tree(tree, num_properties)
+            }
+
+            pub fn private_used_property_mask(nodes: &[TreeNode]) -> u32 {
+                Tree::compute_used_property_mask(nodes)
+            }
+
+            #[inline(always)]
+            #[allow(clippy::too_many_arguments)]
+            pub fn private_compute_properties(
+                prediction_data: PredictionData,
+                xsize: usize,
+                wp_state: Option<&mut WeightedPredictorState>,
+                x: usize,
+                y: usize,
+                references: &Image<i32>,
+                property_buffer: &mut [i32],
+                used_mask: u32,
+            ) -> i64 {
+                compute_properties(
+                    prediction_data,
+                    xsize,
+                    wp_state,
+                    x,
+                    y,
+                    references,
+                    property_buffer,
+                    used_mask,
+                )
+            }
+
+            impl TreeNode {
+                /// Of five words in document 01's form.
+                pub fn of(&[first, second, third, fourth, fifth]: &[i32; 5]) -> Self {
+                    if first >= 0 {
+                        let property = first.try_into().unwrap();
+                        TreeNode::Split { property, val: second, left: third as u32, right: fourth as u32 }
+                    } else {
+                        let predictor = Predictor::try_from(second as u32).unwrap();
+                        let (multiplier, id) = (fourth as u32, fifth as u32);
+                        TreeNode::Leaf { predictor, offset: third, multiplier, id }
+                    }
+                }
+
+                pub fn words(&self) -> [i32; 5] {
+                    match *self {
+                        TreeNode::Split { property, val, left, right } => {
+                            [property as i32, val, left as i32, right as i32, 0]
+                        }
+                        TreeNode::Leaf { predictor, offset, multiplier, id } => {
+                            [-1, predictor as i32, offset, multiplier as i32, id as i32]
+                        }
+                    }
+                }
+            }
+        }
 
         /// The plane alone; the decoder's own channel knows more of its place in the picture.
         pub struct ModularChannel {

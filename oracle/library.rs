@@ -74,6 +74,25 @@ unsafe extern "C" {
         plane: *const i32, plane_len: usize, memory: *mut u32, memory_len: usize,
         answers: *mut i64, answers_len: usize,
     ) -> u32;
+    fn matuviso_property_mask(
+        words: *const i32, words_len: usize, told: *mut i64, told_len: usize,
+    ) -> u32;
+    fn matuviso_check_shape(
+        words: *const i32, words_len: usize, told: *mut i64, told_len: usize,
+    ) -> u32;
+    fn matuviso_validate_tree(
+        words: *const i32, words_len: usize, work: *mut i32, work_len: usize,
+        told: *mut i64, told_len: usize,
+    ) -> u32;
+    fn matuviso_compute_properties(
+        mask: u32, x: usize, y: usize, data: *const i32, data_len: usize, wp_property: i32,
+        references: *const i32, references_len: usize, cells: *mut i32, cells_len: usize,
+        told: *mut i64, told_len: usize,
+    ) -> u32;
+    fn matuviso_fill_row(
+        mask: u32, y: usize, data: *const i32, data_len: usize,
+        references: *const i32, references_len: usize, cells: *mut i32, cells_len: usize,
+    ) -> u32;
 }
 
 // In each call below a pointer and its length come from one slice, which lives through the call.
@@ -204,6 +223,65 @@ pub fn weigh_plane(
             header.as_ptr(), header.len(), width, data.as_ptr(), data.len(),
             plane.as_ptr(), plane.len(), memory.as_mut_ptr(), memory.len(),
             answers.as_mut_ptr(), answers.len(),
+        )
+    }
+}
+
+// Of a tree and of cells the refusal's details are told too, and the mask: from word 0 of `told` on.
+
+#[inline(always)]
+pub fn property_mask(words: &[i32], told: &mut [i64]) -> u32 {
+    unsafe {
+        matuviso_property_mask(words.as_ptr(), words.len(), told.as_mut_ptr(), told.len())
+    }
+}
+
+#[inline(always)]
+pub fn check_shape(words: &[i32], told: &mut [i64]) -> u32 {
+    unsafe {
+        matuviso_check_shape(words.as_ptr(), words.len(), told.as_mut_ptr(), told.len())
+    }
+}
+
+#[inline(always)]
+pub fn validate_tree(words: &[i32], work: &mut [i32], told: &mut [i64]) -> u32 {
+    unsafe {
+        matuviso_validate_tree(
+            words.as_ptr(), words.len(), work.as_mut_ptr(), work.len(),
+            told.as_mut_ptr(), told.len(),
+        )
+    }
+}
+
+/// What a filling takes beside the cells.
+#[derive(Clone, Copy, Debug)]
+pub struct Pixel<'a> {
+    pub mask: u32,
+    pub x: usize,
+    pub y: usize,
+    pub data: &'a [i32],
+    pub wp_property: i32,
+    pub references: &'a [i32],
+}
+
+#[inline(always)]
+pub fn compute_properties(pixel: Pixel, cells: &mut [i32], told: &mut [i64]) -> u32 {
+    let Pixel { mask, x, y, data, wp_property, references } = pixel;
+    unsafe {
+        matuviso_compute_properties(
+            mask, x, y, data.as_ptr(), data.len(), wp_property,
+            references.as_ptr(), references.len(), cells.as_mut_ptr(), cells.len(),
+            told.as_mut_ptr(), told.len(),
+        )
+    }
+}
+
+#[inline(always)]
+pub fn fill_row(mask: u32, y: usize, data: &[i32], references: &[i32], cells: &mut [i32]) -> u32 {
+    unsafe {
+        matuviso_fill_row(
+            mask, y, data.as_ptr(), data.len(), references.as_ptr(), references.len(),
+            cells.as_mut_ptr(), cells.len(),
         )
     }
 }

@@ -1,10 +1,18 @@
 //! Writes answers of the Rust alone to a file, for a program that replays them without it.
 //! README.md has the form of a record; this program never sees the library.
 
+#[allow(dead_code)] // the comparisons grow more
+#[path = "compare/tree/grown.rs"]
+mod grown;
 #[allow(dead_code)] // the comparisons draw more
 mod random;
 
+use decoder::error::Error;
+use decoder::frame::modular::tree::{
+    TreeNode, private_compute_properties, private_used_property_mask, private_validate_tree,
+};
 use decoder::headers::modular::{DEFAULTS, MOST, WeightedHeader};
+use decoder::image::Image;
 use decoder::predict::{PredictionData, Predictor, WeightedPredictorState, private_error_weight};
 use decoder::rct;
 use decoder::util::floor_log2_nonzero;
@@ -16,7 +24,7 @@ const MAX: i32 = i32::MAX;
 /// The records, 32 words each, and how many there are of each kind.
 struct Records {
     bytes: Vec<u8>,
-    counts: [u32; 9],
+    counts: [u32; 12],
 }
 
 impl Records {
@@ -32,7 +40,7 @@ impl Records {
 
 fn main() {
     let path = std::env::args().nth(1).expect("the file to write");
-    let mut records = Records { bytes: Vec::new(), counts: [0; 9] };
+    let mut records = Records { bytes: Vec::new(), counts: [0; 12] };
     let random = &mut Random::new(12);
     highest_bits(&mut records, random);
     error_weights(&mut records, random);
@@ -41,6 +49,8 @@ fn main() {
     guesses(&mut records, random);
     colours(&mut records, random);
     weighted_pixels(&mut records, random);
+    trees(&mut records, random);
+    cells(&mut records, random);
     std::fs::write(&path, &records.bytes).expect("a file that can be written");
     println!("seed {SEED:#x}; {} bytes", records.bytes.len());
     let names = [
@@ -52,11 +62,14 @@ fn main() {
         "do_rct_step",
         "predict_and_property",
         "update_errors",
+        "used_property_mask",
+        "validate_tree",
+        "compute_properties",
     ];
     for (kind, name) in (1..).zip(names) {
-        println!("kind {kind} {name:<24}{:>5} records", records.counts[kind]);
+        println!("kind {kind:>2} {name:<24}{:>5} records", records.counts[kind]);
     }
-    println!("{:>36} in all", records.counts.iter().sum::<u32>());
+    println!("{:>37} in all", records.counts.iter().sum::<u32>());
 }
 
 /// Low and high half.
@@ -263,5 +276,108 @@ fn weighted_pixels(records: &mut Records, random: &mut Random) {
         let place = (random.below(width), random.below(4));
         let (seven, value) = ([(); 7].map(|_| any(random)), any(random));
         weighted_pixel(records, &header, width, place, &mut state, &seven, value);
+    }
+}
+
+/// A tree of at most 8 splits in 12 words: which nodes are splits, a bit a node; how many nodes; the splits'
+/// properties, a byte each; their values. The rest follows: children lie where `Tree::read` puts them, and
+/// a leaf is -1, 0, 0, 1, 0.
+fn packed(words: &[i32]) -> [i32; 12] {
+    let nodes: &[[i32; 5]] = words.as_chunks().0;
+    let splits = nodes.iter().enumerate().filter(|(_, node)| node[0] >= 0);
+    let mut packed = [0; 12];
+    packed[1] = nodes.len() as i32;
+    let mut properties = [0; 8];
+    for (k, (place, node)) in splits.enumerate() {
+        assert_eq!([node[2], node[3]], [2 * k as i32 + 1, 2 * k as i32 + 2]);
+        packed[0] |= 1 << place;
+        properties[k] = node[0] as u8;
+        packed[4 + k] = node[1];
+    }
+    for (word, four) in packed[2..4].iter_mut().zip(properties.as_chunks().0) {
+        *word = i32::from_le_bytes(*four);
+    }
+    packed
+}
+
+/// Document 01's trees, then any of up to 8 splits: first the masks of all, then the verdicts.
+fn trees(records: &mut Records, random: &mut Random) {
+    let leaf = [-1, 0, 0, 1, 0];
+    let split = |property, value, k| [property, value, 2 * k + 1, 2 * k + 2, 0];
+    let mut trees = vec![leaf.to_vec()];
+    for value in [MAX, MAX - 1, 0, MIN] {
+        trees.push([split(0, value, 0), leaf, leaf].concat());
+    }
+    for property in [0, 1, 7, 8, 9, 10, 15, 16, 31, 32, 40, 254, 255] {
+        trees.push([split(property, 0, 0), leaf, leaf].concat());
+    }
+    for (property, value) in [(9, 4), (9, 5), (9, 6), (9, MIN), (9, MAX - 1), (9, MAX), (8, 5)] {
+        let child = split(property, value, 1);
+        trees.push([split(9, 5, 0), child, leaf, leaf, leaf].concat());
+        trees.push([split(9, 5, 0), leaf, child, leaf, leaf].concat());
+    }
+    for k in 0..300 {
+        let style = grown::Style::any(random, k % 9);
+        let mut words = grown::tree(random, &style);
+        words
+            .as_chunks_mut()
+            .0
+            .iter_mut()
+            .filter(|node: &&mut [i32; 5]| node[0] < 0)
+            .for_each(|node| *node = leaf);
+        trees.push(words);
+    }
+    let nodes = |words: &[i32]| -> Vec<TreeNode> { words.as_chunks().0.iter().map(TreeNode::of).collect() };
+    for words in &trees {
+        records.add(9, &[&packed(words), &[private_used_property_mask(&nodes(words)) as i32]]);
+    }
+    for words in &trees {
+        let verdict = match private_validate_tree(&nodes(words), 256) {
+            Ok(()) => [0; 5],
+            Err(Error::TreeSplitOnEmptyRange(property, value, low, high)) => {
+                [7, property as i32, value, low, high]
+            }
+            Err(other) => panic!("{other:?}"),
+        };
+        records.add(10, &[&packed(words), &verdict]);
+    }
+}
+
+/// Each bit of the mask alone and groups of them, with no references, one and two; every other pixel with a
+/// weighted state on any memory. Beforehand cell k holds 100 + k, but for cell 9.
+fn cells(records: &mut Records, random: &mut Random) {
+    let groups = [0, 3, 12, 0xf0, 0x300, 0x7c00, 0x8000, 0xffff_0000, u32::MAX, 0x7fff, 0xffff];
+    let masks: Vec<u32> = (0..32).map(|bit| 1 << bit).chain(groups).collect();
+    for k in 0..8 * masks.len() {
+        let any = random.next() as u32;
+        let mask = if k < 7 * masks.len() { masks[k % masks.len()] } else { any };
+        let (width, header) = (6, WeightedHeader::of(&DEFAULTS));
+        let (x, y) = (random.below(width), random.below(4));
+        let (seven, old) = (random.seven(), random.word());
+        let memory: Vec<[u32; 5]> =
+            (0..2 * (width + 2)).map(|_| [(); 5].map(|_| random.word() as u32)).collect();
+        let [mut state, mut equal] = [(); 2].map(|_| {
+            let mut state = WeightedPredictorState::new(&header, width).unwrap();
+            state.fill(&memory);
+            state
+        });
+        let weighted = k % 2 == 1;
+        let property = match weighted {
+            true => equal.predict_and_property((x, y), width, &PredictionData::of(&seven)).1,
+            false => 0,
+        };
+        let row: Vec<i32> = (0..k / 2 % 3).map(|_| random.word()).collect();
+        let references = Image::of((row.len(), width), row.repeat(width));
+        let mut after: [i32; 18] = std::array::from_fn(|cell| 100 + cell as i32);
+        after[9] = old;
+        let wp_state = if weighted { Some(&mut state) } else { None };
+        let data = PredictionData::of(&seven);
+        private_compute_properties(data, width, wp_state, x, y, &references, &mut after, mask);
+        assert_eq!(after[..2], [100, 101]);
+        let head = [mask as i32, x as i32, y as i32];
+        let mut two = [0; 2];
+        two[..row.len()].copy_from_slice(&row);
+        let middle = [old, property, row.len() as i32];
+        records.add(11, &[&head, &seven[..6], &middle, &two, &after[2..]]);
     }
 }

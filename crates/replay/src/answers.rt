@@ -11,11 +11,19 @@
 //   toptop, topleft, topright; 10 the true value; 11.. the position N, its error and four sums; 16.. NE; 21.. NW; 26 the error
 //   of W; 27, 28 the guess; 29 the property
 // 8 update_errors: the same up to 26; 27.. the pixel's position after the true value is put
+// 9 compute_used_property_mask: word 1 which nodes of a tree are splits, a bit a node; 2 how many nodes, at most 17; 3, 4 the
+//   properties of the splits, a byte each; 5.. their values, at most eight; 13 the mask
+// 10 validate_tree: the same up to 12; 13 0 or 7; 14.. the property, the value, the low and the high end of a split with an
+//   empty side
+// 11 compute_properties: word 1 the mask; 2 x; 3 y; 4.. left, top, toptop, topleft, topright, leftleft; 10 the old cell 9; 11
+//   the weighted property; 12 the number of references, at most 2; 13, 14 the references; 15.. cells 2 to 17
 ghost use Prim.Native.Nat.{_+_, _≤_};
 ghost use lib.ListN.{length};
+use crate::fillings;
 use crate::outcome::Outcome;
 use crate::outcome::told;
 use crate::pixels;
+use crate::trees;
 use crate::words;
 use arith::Weight;
 use colour::restore::Restored;
@@ -122,17 +130,6 @@ fn predict_one(bytes: &[u8]) -> Outcome
     }
 }
 
-// Whether the words of a plane are those from k on, up to the fourth.
-fn plane_is(plane: &[i32], bytes: &[u8], k: usize) -> bool
-    requires { ⌜ (128 ≤ length (now bytes)) × (k + 4 ≤ 32) ⌝ }
-{
-    let n = plane.len();
-    (n < 1 || plane[0] == words::word(bytes, k))
-        && (n < 2 || plane[1] == words::word(bytes, k + 1))
-        && (n < 3 || plane[2] == words::word(bytes, k + 2))
-        && (n < 4 || plane[3] == words::word(bytes, k + 3))
-}
-
 fn restored(a: &mut [i32], b: &mut [i32], c: &mut [i32], bytes: &[u8]) -> Outcome
     requires { ⌜ 128 ≤ length (now bytes) ⌝ }
 {
@@ -140,7 +137,9 @@ fn restored(a: &mut [i32], b: &mut [i32], c: &mut [i32], bytes: &[u8]) -> Outcom
     let order = words::bits(bytes, 2);
     match colour::restore::do_rct_step(a, b, c, operation, order) {
         Restored::Done => told(
-            plane_is(a, bytes, 16) && plane_is(b, bytes, 20) && plane_is(c, bytes, 24),
+            words::plane_is(a, bytes, 16)
+                && words::plane_is(b, bytes, 20)
+                && words::plane_is(c, bytes, 24),
         ),
         Restored::Refused(_) => Outcome::Refused,
     }
@@ -175,6 +174,9 @@ pub fn hold(bytes: &[u8]) -> Outcome
         6 => do_rct_step(bytes),
         7 => pixels::pixel(bytes, false),
         8 => pixels::pixel(bytes, true),
+        9 => trees::tree(bytes, false),
+        10 => trees::tree(bytes, true),
+        11 => fillings::filling(bytes),
         _ => Outcome::NoForm,
     }
 }

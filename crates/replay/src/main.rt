@@ -3,9 +3,11 @@
 // were equal. The first record that differs, that the library refuses, that has no form or that is cut short ends the run,
 // and its number, from 0, is told. Only an input that was equal to its end has the last line `all equal`.
 mod answers;
+mod fillings;
 mod outcome;
 mod pixels;
 mod tally;
+mod trees;
 mod words;
 
 use outcome::Outcome;

@@ -9,6 +9,9 @@ pub struct Tally {
     pub do_rct_step: u64,
     pub predict_and_property: u64,
     pub update_errors: u64,
+    pub mask: u64,
+    pub validate_tree: u64,
+    pub compute_properties: u64,
 }
 
 fn one_more(n: u64) -> u64 {
@@ -27,6 +30,9 @@ impl Tally {
             do_rct_step: 0,
             predict_and_property: 0,
             update_errors: 0,
+            mask: 0,
+            validate_tree: 0,
+            compute_properties: 0,
         }
     }
 
@@ -58,6 +64,15 @@ impl Tally {
             8 => {
                 self.update_errors = one_more(self.update_errors);
             }
+            9 => {
+                self.mask = one_more(self.mask);
+            }
+            10 => {
+                self.validate_tree = one_more(self.validate_tree);
+            }
+            11 => {
+                self.compute_properties = one_more(self.compute_properties);
+            }
             _ => {}
         }
         self
@@ -72,6 +87,9 @@ impl Tally {
         line(b"do_rct_step: ", self.do_rct_step);
         line(b"predict_and_property: ", self.predict_and_property);
         line(b"update_errors: ", self.update_errors);
+        line(b"compute_used_property_mask: ", self.mask);
+        line(b"validate_tree: ", self.validate_tree);
+        line(b"compute_properties: ", self.compute_properties);
     }
 }
 

@@ -75,6 +75,17 @@ pub fn plane(bytes: &[u8], k: usize) -> [i32; 4]
     ]
 }
 
+// Whether the words of a plane are those from k on, up to the fourth.
+pub fn plane_is(plane: &[i32], bytes: &[u8], k: usize) -> bool
+    requires { ⌜ (128 ≤ length (now bytes)) × (k + 4 ≤ 32) ⌝ }
+{
+    let n = plane.len();
+    (n < 1 || plane[0] == word(bytes, k))
+        && (n < 2 || plane[1] == word(bytes, k + 1))
+        && (n < 3 || plane[2] == word(bytes, k + 2))
+        && (n < 4 || plane[3] == word(bytes, k + 3))
+}
+
 // Seven words from k on: the neighbours, in their order.
 pub fn seven(bytes: &[u8], k: usize) -> PredictionData
     requires { ⌜ (128 ≤ length (now bytes)) × (k + 7 ≤ 32) ⌝ }

@@ -1,0 +1,162 @@
+// What the oracle calls from Rust (../../oracle): the functions of trees and of cells behind C functions. No part of what a
+// board links. An answer of 0 says done, another is a refusal's number; its details are then the first words of `told`, where
+// there must be room for five. A list that is too short is 8, before all else, and nothing is written.
+ghost use mathlib.Core.Path.{_≡_};
+ghost use lib.ListN.{length};
+ghost use Prim.Native.Nat.{_≤_};
+ghost use mathlib.Core.Bool.{true};
+ghost use Rattle.cells.specs.Cells.{said};
+ghost use Rattle.refusal.specs.Paper.{numberOf, detailsOf};
+ghost use Rattle.validation.specs.Verdict.{saidVerdict};
+ghost use Rattle.lab_tree.specs.Told.{
+  Tells,
+  nothing,
+  begun,
+  sideOf,
+  dataOf,
+  MaskTold,
+  ShapeTold,
+  ValidTold,
+  FillTold,
+};
+use cells::Filled;
+use cells::compute_properties;
+use integer::widen;
+use nodes::mask::Masked;
+use nodes::mask::compute_used_property_mask;
+use predict::neighbours::PredictionData;
+use refusal::Refusal;
+use refusal::Side;
+use validation::Verdict;
+use validation::check_shape;
+use validation::validate_tree;
+
+// An empty side's number, and its five details into the list.
+fn tell_side(side: Side, told: &mut [i64]) -> u32
+    requires { ⌜ 5 ≤ length (now told) ⌝ }
+    ensures { λ r. ⌜ (r ≡ 7) × (now (told .exit) ≡ begun (sideOf side) (now (told .entry))) ⌝ }
+{
+    let place = side.place as i64;
+    let property = side.property as i64;
+    let value = widen(side.value);
+    let low = widen(side.low);
+    let high = widen(side.high);
+    told[0] = place;
+    told[1] = property;
+    told[2] = value;
+    told[3] = low;
+    told[4] = high;
+    7
+}
+
+// A refusal's number, and its details into the list.
+fn tell(refusal: Refusal, told: &mut [i64]) -> u32
+    requires { ⌜ 5 ≤ length (now told) ⌝ }
+    ensures { λ r. ⌜ (r ≡ numberOf refusal) × (now (told .exit) ≡ begun (detailsOf refusal) (now (told .entry))) ⌝ }
+{
+    match refusal {
+        Refusal::EmptySide(side) => tell_side(side, told),
+        _ => {
+            told[0] = refusal.first_detail() as i64;
+            refusal.number()
+        }
+    }
+}
+
+fn tell_verdict(verdict: Verdict, told: &mut [i64]) -> u32
+    requires { ⌜ 5 ≤ length (now told) ⌝ }
+    ensures { λ r. ⌜ Tells nothing true (saidVerdict verdict) (now (told .entry)) r (now (told .exit)) ⌝ }
+{
+    match verdict {
+        Verdict::Accepted => 0,
+        Verdict::Refused(refusal) => tell(refusal, told),
+    }
+}
+
+fn tell_filled(filled: Filled, told: &mut [i64]) -> u32
+    requires { ⌜ 5 ≤ length (now told) ⌝ }
+    ensures { λ r. ⌜ Tells nothing true (said «filled») (now (told .entry)) r (now (told .exit)) ⌝ }
+{
+    match filled {
+        Filled::Done => 0,
+        Filled::Refused(refusal) => tell(refusal, told),
+    }
+}
+
+// The mask as the first word told.
+#[no_mangle]
+pub extern "C" fn matuviso_property_mask(words: &[i32], told: &mut [i64]) -> u32
+    ensures { λ r. ⌜ MaskTold (now (words .entry)) (now (told .entry)) r (now (told .exit)) ⌝ }
+{
+    if told.len() < 5 {
+        return 8;
+    }
+    let masked = compute_used_property_mask(words);
+    match masked {
+        Masked::Is(mask) => {
+            told[0] = mask as i64;
+            0
+        }
+        Masked::Refused(refusal) => tell(refusal, told),
+    }
+}
+
+#[no_mangle]
+pub extern "C" fn matuviso_check_shape(words: &[i32], told: &mut [i64]) -> u32
+    ensures { λ r. ⌜ ShapeTold (now (words .entry)) (now (told .entry)) r (now (told .exit)) ⌝ }
+{
+    if told.len() < 5 {
+        return 8;
+    }
+    tell_verdict(check_shape(words), told)
+}
+
+#[no_mangle]
+pub extern "C" fn matuviso_validate_tree(words: &[i32], work: &mut [i32], told: &mut [i64]) -> u32
+    ensures { λ r. ⌜ ValidTold (now (words .entry)) (now (work .entry)) (now (told .entry)) r (now (work .exit)) (now (told .exit)) ⌝ }
+{
+    if told.len() < 5 {
+        return 8;
+    }
+    tell_verdict(validate_tree(words, work), told)
+}
+
+// Reads the seven in their order.
+fn take_seven(seven: &[i32]) -> PredictionData
+    requires { ⌜ 7 ≤ length (now seven) ⌝ }
+    ensures { λ r. ⌜ r ≡ dataOf (now (seven .entry)) ⌝ }
+{
+    PredictionData {
+        left: seven[0],
+        top: seven[1],
+        toptop: seven[2],
+        topleft: seven[3],
+        topright: seven[4],
+        leftleft: seven[5],
+        toprightright: seven[6],
+    }
+}
+
+// Fills the cells of a pixel whose neighbours are the seven of `data`.
+#[no_mangle]
+pub extern "C" fn matuviso_compute_properties(
+    mask: u32,
+    x: usize,
+    y: usize,
+    data: &[i32],
+    wp_property: i32,
+    references: &[i32],
+    cells: &mut [i32],
+    told: &mut [i64],
+) -> u32
+    ensures { λ r. ⌜ FillTold mask x y (now («data» .entry)) «wp_property» (now (references .entry)) (now (cells .entry)) (now (told .entry)) r (now (cells .exit)) (now (told .exit)) ⌝ }
+{
+    if data.len() < 7 {
+        return 8;
+    }
+    if told.len() < 5 {
+        return 8;
+    }
+    let filled = compute_properties(mask, x, y, take_seven(data), wp_property, references, cells);
+    tell_filled(filled, told)
+}
