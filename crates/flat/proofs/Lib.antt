@@ -1,0 +1,4 @@
+pub mod Fuel
+pub mod Needed
+pub mod Read
+pub mod Turn

@@ -1,0 +1,2 @@
+pub mod FlatWalk
+pub mod Records
