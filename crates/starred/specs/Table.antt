@@ -5,19 +5,26 @@ use mathlib.Core.Path.{_≡_, refl}
 use Prim.Native.Nat.{ℕ}
 use lib.Dec.{ltb}
 use lib.IntN.{ℤ, pos, negsuc}
+use lib.ListN.{length, drop}
 use Rattle.refusal.specs.Paper.{Outcome, gives, refuses}
 use Rattle.arith.specs.Weights.{errorWeight, floorLog2, halvings}
 use Rattle.blend.specs.Blend.{defaults, weightsFor, normalised, inRange, found, average, possible, errorsOf}
 use Rattle.arith.specs.declared.Four.{Four}
 use Rattle.colour.specs.Restore.{operate}
 use Rattle.colour.specs.declared.restore.Triple.{Triple}
+use Rattle.flatten.specs.Flatten.{flattening}
+use Rattle.flatten.specs.Offsets.{firstWide}
+use Rattle.flatten.specs.Queue.{queued, evenSplits}
+use Rattle.flatten.specs.Records.{recordWords}
 use Rattle.history.specs.Calls.{calls}
 use Rattle.integer.specs.Fill.{tabulate}
 use Rattle.integer.specs.Order.{if}
+use Rattle.nodes.specs.Nodes.{nodeOf}
 use Rattle.predict.specs.Predictors.{guess}
 use Rattle.predict.specs.declared.neighbours.PredictionData.{PredictionData}
 use Rattle.predict.specs.declared.predictors.Predictor.{Predictor}
 use Rattle.predict.specs.declared.predictors.Predictor.the-variants.{Select, AverageWestAndNorth, Gradient}
+use Rattle.validation.specs.Shape.{splitsBefore, firstFault}
 use Rattle.weighted.specs.Memory.{errorsRead, sumsRead, errorAt, stored, added}
 use Rattle.weighted.specs.State.{asks, allowed}
 use Rattle.weighted.specs.declared.state.Answer.{Answer}
@@ -67,8 +74,13 @@ asked k =
     let before = calls defaults 4 (tabulate (λ i. 0) 60) neighbours (λ j. pos 10) k in
     answer (asks (before .state) (before .memory) (neighbours k))
 
+-- three nodes, property 9, value 0, the leaves with predictors 5 and 13
+abbrev three : List ℤ
+three =
+    pos 9 ∷ pos 0 ∷ pos 1 ∷ pos 2 ∷ pos 0 ∷ negsuc 0 ∷ pos 5 ∷ pos 0 ∷ pos 1 ∷ pos 7 ∷ negsuc 0 ∷ pos 13 ∷ pos 0 ∷ pos 1 ∷ pos 8 ∷ []
+
 unfoldable pub table : List Case
-unfolding floorLog2 halvings normalised inRange tabulate calls allowed found average errorsRead sumsRead errorAt possible errorsOf stored added
+unfolding floorLog2 halvings normalised inRange tabulate calls allowed found average errorsRead sumsRead errorAt possible errorsOf stored added nodeOf splitsBefore firstFault firstWide evenSplits queued recordWords
 table =
     -- Select(left 3, top 7, topleft 5) = 7: a tie gives top
     says (corner Select (pos 3) (pos 7) (pos 5)) (pos 7 ∷ [])
@@ -93,6 +105,14 @@ table =
     ∷ says (colours 6 (pos 100) (pos 7) (negsuc 2)) (pos 106 ∷ pos 99 ∷ pos 99 ∷ [])
     ∷ says (colours 4 (pos 5) (pos 0) (negsuc 7)) (pos 5 ∷ negsuc 1 ∷ negsuc 7 ∷ [])
     ∷ says (colours 5 (pos 5) (pos 0) (negsuc 7)) (pos 5 ∷ pos 1 ∷ negsuc 2 ∷ [])
+    -- three nodes, property 9, value 0: first record 9, 0, 0, 0, 1, 0, then left twice, right twice
+    ∷ says (recordWords three 5)
+    (pos 9 ∷ pos 0 ∷ pos 0 ∷ pos 0 ∷ pos 1 ∷ pos 0
+    ∷ negsuc 0 ∷ pos 5 ∷ pos 1 ∷ pos 0 ∷ pos 7 ∷ pos 0 ∷ negsuc 0 ∷ pos 5 ∷ pos 1 ∷ pos 0 ∷ pos 7 ∷ pos 0
+    ∷ negsuc 0 ∷ pos 13 ∷ pos 1 ∷ pos 0 ∷ pos 8 ∷ pos 0 ∷ negsuc 0 ∷ pos 13 ∷ pos 1 ∷ pos 0 ∷ pos 8 ∷ pos 0 ∷ [])
+    -- the ring of 4 is full once the first record is written, and is enough
+    ∷ says (pos (length (drop 1 (queued three 1))) ∷ []) (pos 4 ∷ [])
+    ∷ says (numbers (flattening three 4 30)) (pos 0 ∷ pos 5 ∷ [])
     ∷ []
 
 abbrev defined : Case → List ℤ

@@ -1,0 +1,5 @@
+pub mod Agree
+pub mod Demand3
+pub mod Direct
+pub mod Flat
+pub mod Written

@@ -1,0 +1,1 @@
+// Demand 3, second half: a crate without code, so that wrong versions of the walks do not check it again.
