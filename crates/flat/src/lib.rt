@@ -1,7 +1,6 @@
 // Module 8, the flat walk: from record 0 down to a leaf. Each split record decides two levels of the tree.
 ghost use mathlib.Core.Path.{_≡_};
 ghost use Prim.Native.Nat.{_*_, _≤_, _<_};
-ghost use lib.IntN.{_+ℤ_};
 ghost use lib.ListN.{length};
 ghost use lib.Signed.{ltZ};
 ghost use Rattle.flat.specs.FlatWalk.{
@@ -17,9 +16,7 @@ ghost use Rattle.flat.specs.FlatWalk.{
 };
 ghost use Rattle.integer.specs.Order.{if};
 ghost use Rattle.walk.specs.Walk.{answerOf, said};
-ghost use Rattle.walk.specs.Wide.{wrap64};
 use form::record_here;
-use integer::widen;
 use nodes::Counted;
 use predict::neighbours::PredictionData;
 use records::FlatLeaf;
@@ -30,7 +27,7 @@ use records::count_records;
 use refusal::Refusal;
 use walk::PredictionResult;
 use walk::Walked;
-use walk::wrapping_sum;
+use walk::sum;
 
 mod form;
 pub mod records;
@@ -39,20 +36,6 @@ pub mod records;
 enum Next {
     At(usize),
     Refused(Refusal),
-}
-
-// Guess plus offset, wrapping at 64 bits. Far from the ends of the range, where every guess of 32-bit neighbours lies, it cannot wrap.
-fn sum(guess: i64, offset: i32) -> i64
-    ensures { λ r. ⌜ r ≡ wrap64 (guess +ℤ offset) ⌝ }
-{
-    let wide = widen(offset);
-    if guess < -4611686018427387904 {
-        return wrapping_sum(guess, wide);
-    }
-    if guess > 4611686018427387903 {
-        return wrapping_sum(guess, wide);
-    }
-    guess + wide
 }
 
 fn answer(leaf: FlatLeaf, data: PredictionData, wp_pred: i64, hops: u32) -> PredictionResult

@@ -36,7 +36,7 @@ enum Next {
 }
 
 // a + b, wrapping at 64 bits: where the sum would not fit, each of the two is moved by 2^63 first, 2^64 in all.
-pub fn wrapping_sum(a: i64, b: i64) -> i64
+fn wrapping_sum(a: i64, b: i64) -> i64
     ensures { λ r. ⌜ r ≡ wrap64 (a +ℤ b) ⌝ }
 {
     if b < 0 {
@@ -51,6 +51,21 @@ pub fn wrapping_sum(a: i64, b: i64) -> i64
     a + b
 }
 
+// Guess plus offset, wrapping at 64 bits. Far from the ends of the range, where every guess of 32-bit neighbours lies, it cannot wrap, so
+// that no test hangs on the offset's sign.
+pub fn sum(guess: i64, offset: i32) -> i64
+    ensures { λ r. ⌜ r ≡ wrap64 (guess +ℤ offset) ⌝ }
+{
+    let wide = widen(offset);
+    if guess < -4611686018427387904 {
+        return wrapping_sum(guess, wide);
+    }
+    if guess > 4611686018427387903 {
+        return wrapping_sum(guess, wide);
+    }
+    guess + wide
+}
+
 // A leaf's answer.
 fn answer(leaf: Leaf, data: PredictionData, wp_pred: i64, hops: u32) -> PredictionResult
     ensures { λ r. ⌜ «r» ≡ answerOf «leaf» «data» «wp_pred» hops ⌝ }
@@ -58,7 +73,7 @@ fn answer(leaf: Leaf, data: PredictionData, wp_pred: i64, hops: u32) -> Predicti
     let predictor = leaf.predictor;
     let guess = predictor.predict_one(data, wp_pred);
     PredictionResult {
-        guess: wrapping_sum(guess, widen(leaf.offset)),
+        guess: sum(guess, leaf.offset),
         multiplier: leaf.multiplier,
         context: leaf.id,
         hops,

@@ -12,9 +12,9 @@ use Rattle.walk.specs.Wide.{wrap64}
 use Rattle.walk.proofs.answer.Statement.{statement}
 use Rattle.walk.proofs.answer.Tie as tie
 
-module _ (c : tie.After-wrapping-sum) where
+module _ (c : tie.After-sum) where
   abbrev guessed : tie.After-predict-one
-  guessed = c .before .before .before
+  guessed = c .before .before
 
   abbrev leaf : Leaf
   leaf = guessed .before .args .leaf
@@ -25,23 +25,20 @@ module _ (c : tie.After-wrapping-sum) where
   is-guess : toZ w64 (ofZ w64 (guessed .predict-one .result)) ≡ expected
   is-guess = held w64 _ (guessed .predict-one .ok) ∙ (simp (toZ-ofZ (guessed .before .fits .wp-pred)) at (guessed .predict-one .ensures))
 
-  is-offset : toZ w64 (ofZ w64 (c .before .widen .result)) ≡ leaf .offset
-  is-offset = held w64 _ (c .before .widen .ok) ∙ c .before .widen .ensures ∙ held w32 (leaf .offset) (c .before .before .struct-told .given .1 .0 .1)
+  hold-offset : toZ w32 (ofZ w32 (leaf .offset)) ≡ leaf .offset
+  hold-offset = held w32 (leaf .offset) (c .before .struct-told .given .1 .0 .1)
 
-  is-sum : toZ w64 (ofZ w64 (c .wrapping-sum .result)) ≡ wrap64 (expected +ℤ leaf .offset)
-  is-sum = held w64 _ (c .wrapping-sum .ok) ∙ (simp (is-guess, is-offset) at (c .wrapping-sum .ensures))
+  is-sum : toZ w64 (ofZ w64 (c .sum .result)) ≡ wrap64 (expected +ℤ leaf .offset)
+  is-sum = held w64 _ (c .sum .ok) ∙ (simp (is-guess, hold-offset) at (c .sum .ensures))
 
 predict-one-requires : tie.Need-predict-one-requires
 predict-one-requires c κs = search needs
 
-widen-requires : tie.Need-widen-requires
-widen-requires c κs = search needs
-
-wrapping-sum-requires : tie.Need-wrapping-sum-requires
-wrapping-sum-requires c κs = search needs
+sum-requires : tie.Need-sum-requires
+sum-requires c κs = search needs
 
 returns : tie.Need-returns
 returns c = simp (is-sum c)
 
 pub answer-spec : {M : Type 1} → statement M
-answer-spec = tie.close (tie.spec predict-one-requires widen-requires wrapping-sum-requires returns)
+answer-spec = tie.close (tie.spec predict-one-requires sum-requires returns)

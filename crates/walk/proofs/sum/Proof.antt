@@ -11,9 +11,9 @@ use mir.Val.{SFits, toZ, ofZ}
 use native.Mathlib.Omega.{arith}
 use Prim.Native.Nat.{_^_}
 use Rattle.integer.proofs.Bounded.{Below, fits, held, of-fits, plus}
 use Rattle.walk.proofs.Wide.{wrap64-in-range}
-use Rattle.flat.proofs.sum.Statement.{statement}
-use Rattle.flat.proofs.sum.Tie as tie
+use Rattle.walk.proofs.sum.Statement.{statement}
+use Rattle.walk.proofs.sum.Tie as tie
 
 middle : (z : ℤ) → ltZ z (negsuc 4611686018427387903) ≡ false → ltZ (pos 4611686018427387903) z ≡ false → Below (2 ^ 62) z
 middle (pos n) low high = record { size = omega (arith, ltb-false 4611686018427387903 n high) }
