@@ -1,6 +1,7 @@
 //! Times of library and Rust in one run, side by side, printed as ratios (below 1: the library is faster).
 
 mod colour;
+mod flat;
 mod tree;
 mod weighted;
 
@@ -20,6 +21,7 @@ pub fn all() {
     colour::all();
     weighted::all();
     tree::all();
+    flat::all();
 }
 
 fn seconds(work: impl FnOnce()) -> f64 {

@@ -4,6 +4,7 @@
 mod arithmetic;
 pub mod cells;
 mod colour;
+pub mod flat;
 mod neighbours;
 pub mod predictors;
 pub mod tree;
@@ -22,6 +23,7 @@ pub fn all() {
     weighted::all();
     cells::all();
     tree::all();
+    flat::all();
 }
 
 /// Counts the cases of one comparison and says so at its end.

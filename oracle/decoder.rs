@@ -253,6 +253,60 @@ pub mod frame {
                 )
             }
 
+            /// The walk alone: no group of the cells is filled. The weighted state is asked at (0, 0), if there is one.
+            #[inline(always)]
+            pub fn private_predict(
+                tree: &[TreeNode],
+                data: PredictionData,
+                state: Option<(&mut WeightedPredictorState, usize)>,
+                cells: &mut [i32],
+            ) -> PredictionResult {
+                let (state, xsize) = state.unzip();
+                let none = Image::of((0, 0), Vec::new());
+                predict(tree, data, xsize.unwrap_or(0), state, 0, 0, &none, cells, 0)
+            }
+
+            /// The flat tree, whose nodes only this module sees.
+            pub struct FlatTree(Vec<FlatTreeNode>);
+
+            impl FlatTree {
+                #[inline(always)]
+                pub fn of(nodes: &[TreeNode]) -> Result<Self> {
+                    Tree::build_flat_tree(nodes).map(FlatTree)
+                }
+
+                /// In document 01's six words a record.
+                pub fn words(&self) -> Vec<i32> {
+                    let six = |node: &FlatTreeNode| {
+                        let [left, right] = node.splitvals_or_multiplier;
+                        let [low, high] = node.properties_or_offset.map(|half| half as u16 as u32);
+                        let halves = (low | high << 16) as i32;
+                        [
+                            node.property0,
+                            node.splitval0_or_predictor,
+                            left,
+                            right,
+                            node.child_id as i32,
+                            halves,
+                        ]
+                    };
+                    self.0.iter().flat_map(six).collect()
+                }
+
+                /// As `private_predict`.
+                #[inline(always)]
+                pub fn predict(
+                    &self,
+                    data: PredictionData,
+                    state: Option<(&mut WeightedPredictorState, usize)>,
+                    cells: &mut [i32],
+                ) -> PredictionResult {
+                    let (state, xsize) = state.unzip();
+                    let none = Image::of((0, 0), Vec::new());
+                    predict_flat(&self.0, data, xsize.unwrap_or(0), state, 0, 0, &none, cells, 0)
+                }
+            }
+
             impl TreeNode {
                 /// Of five words in document 01's form.
                 pub fn of(&[first, second, third, fourth, fifth]: &[i32; 5]) -> Self {

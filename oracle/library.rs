@@ -93,6 +93,26 @@ unsafe extern "C" {
         mask: u32, y: usize, data: *const i32, data_len: usize,
         references: *const i32, references_len: usize, cells: *mut i32, cells_len: usize,
     ) -> u32;
+    fn matuviso_predict(
+        words: *const i32, words_len: usize, cells: *const i32, cells_len: usize,
+        data: *const i32, data_len: usize, wp_pred: i64, told: *mut i64, told_len: usize,
+    ) -> u32;
+    fn matuviso_predict_flat(
+        words: *const i32, words_len: usize, cells: *const i32, cells_len: usize,
+        data: *const i32, data_len: usize, wp_pred: i64, told: *mut i64, told_len: usize,
+    ) -> u32;
+    fn matuviso_build_flat_tree(
+        words: *const i32, words_len: usize, ring: *mut i32, ring_len: usize,
+        output: *mut i32, output_len: usize, told: *mut i64, told_len: usize,
+    ) -> u32;
+    fn matuviso_walk_pixels(
+        words: *const i32, words_len: usize, cells: *const i32, cells_len: usize,
+        data: *const i32, data_len: usize, wp_pred: i64, guesses: *mut i64, guesses_len: usize,
+    ) -> u32;
+    fn matuviso_walk_flat_pixels(
+        words: *const i32, words_len: usize, cells: *const i32, cells_len: usize,
+        data: *const i32, data_len: usize, wp_pred: i64, guesses: *mut i64, guesses_len: usize,
+    ) -> u32;
 }
 
 // In each call below a pointer and its length come from one slice, which lives through the call.
@@ -282,6 +302,66 @@ pub fn fill_row(mask: u32, y: usize, data: &[i32], references: &[i32], cells: &m
         matuviso_fill_row(
             mask, y, data.as_ptr(), data.len(), references.as_ptr(), references.len(),
             cells.as_mut_ptr(), cells.len(),
+        )
+    }
+}
+
+// Of a walk the guess, the multiplier, the context and the hops are told, of a flattening the count of records.
+
+#[inline(always)]
+pub fn predict(words: &[i32], cells: &[i32], data: &[i32], wp_pred: i64, told: &mut [i64]) -> u32 {
+    unsafe {
+        matuviso_predict(
+            words.as_ptr(), words.len(), cells.as_ptr(), cells.len(),
+            data.as_ptr(), data.len(), wp_pred, told.as_mut_ptr(), told.len(),
+        )
+    }
+}
+
+#[inline(always)]
+pub fn predict_flat(
+    words: &[i32], cells: &[i32], data: &[i32], wp_pred: i64, told: &mut [i64],
+) -> u32 {
+    unsafe {
+        matuviso_predict_flat(
+            words.as_ptr(), words.len(), cells.as_ptr(), cells.len(),
+            data.as_ptr(), data.len(), wp_pred, told.as_mut_ptr(), told.len(),
+        )
+    }
+}
+
+#[inline(always)]
+pub fn build_flat_tree(
+    words: &[i32], ring: &mut [i32], output: &mut [i32], told: &mut [i64],
+) -> u32 {
+    unsafe {
+        matuviso_build_flat_tree(
+            words.as_ptr(), words.len(), ring.as_mut_ptr(), ring.len(),
+            output.as_mut_ptr(), output.len(), told.as_mut_ptr(), told.len(),
+        )
+    }
+}
+
+#[inline(always)]
+pub fn walk_pixels(
+    words: &[i32], cells: &[i32], data: &[i32], wp_pred: i64, guesses: &mut [i64],
+) -> u32 {
+    unsafe {
+        matuviso_walk_pixels(
+            words.as_ptr(), words.len(), cells.as_ptr(), cells.len(),
+            data.as_ptr(), data.len(), wp_pred, guesses.as_mut_ptr(), guesses.len(),
+        )
+    }
+}
+
+#[inline(always)]
+pub fn walk_flat_pixels(
+    words: &[i32], cells: &[i32], data: &[i32], wp_pred: i64, guesses: &mut [i64],
+) -> u32 {
+    unsafe {
+        matuviso_walk_flat_pixels(
+            words.as_ptr(), words.len(), cells.as_ptr(), cells.len(),
+            data.as_ptr(), data.len(), wp_pred, guesses.as_mut_ptr(), guesses.len(),
         )
     }
 }

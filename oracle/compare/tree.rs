@@ -1,7 +1,7 @@
 //! Modules 5 and 6: the mask, the shape and the validation of trees, small, damaged, large and deep.
 
 pub mod grown;
-mod owed;
+pub mod owed;
 
 use super::Tally;
 use crate::library;
@@ -14,8 +14,8 @@ use grown::Style;
 use owed::{DONE, MOST_NODES, Told, UNTOLD, WORK, told};
 
 /// Words lent past those that are needed, and what all lent words hold: a call must leave them, or clear them.
-const MARGIN: usize = 5;
-const UNTOUCHED: i32 = 0x5ea1_5ea1;
+pub const MARGIN: usize = 5;
+pub const UNTOUCHED: i32 = 0x5ea1_5ea1;
 
 pub fn all() {
     println!(

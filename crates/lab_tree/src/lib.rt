@@ -6,62 +6,18 @@ ghost use lib.ListN.{length};
 ghost use Prim.Native.Nat.{_≤_};
 ghost use mathlib.Core.Bool.{true};
 ghost use Rattle.cells.specs.Cells.{said};
-ghost use Rattle.refusal.specs.Paper.{numberOf, detailsOf};
 ghost use Rattle.validation.specs.Verdict.{saidVerdict};
-ghost use Rattle.lab_tree.specs.Told.{
-  Tells,
-  nothing,
-  begun,
-  sideOf,
-  dataOf,
-  MaskTold,
-  ShapeTold,
-  ValidTold,
-  FillTold,
-};
+ghost use Rattle.told.specs.Told.{Tells, nothing};
+ghost use Rattle.lab_tree.specs.Told.{MaskTold, ShapeTold, ValidTold, FillTold};
 use cells::Filled;
 use cells::compute_properties;
-use integer::widen;
 use nodes::mask::Masked;
 use nodes::mask::compute_used_property_mask;
-use predict::neighbours::PredictionData;
-use refusal::Refusal;
-use refusal::Side;
+use told::take_seven;
+use told::tell;
 use validation::Verdict;
 use validation::check_shape;
 use validation::validate_tree;
-
-// An empty side's number, and its five details into the list.
-fn tell_side(side: Side, told: &mut [i64]) -> u32
-    requires { ⌜ 5 ≤ length (now told) ⌝ }
-    ensures { λ r. ⌜ (r ≡ 7) × (now (told .exit) ≡ begun (sideOf side) (now (told .entry))) ⌝ }
-{
-    let place = side.place as i64;
-    let property = side.property as i64;
-    let value = widen(side.value);
-    let low = widen(side.low);
-    let high = widen(side.high);
-    told[0] = place;
-    told[1] = property;
-    told[2] = value;
-    told[3] = low;
-    told[4] = high;
-    7
-}
-
-// A refusal's number, and its details into the list.
-fn tell(refusal: Refusal, told: &mut [i64]) -> u32
-    requires { ⌜ 5 ≤ length (now told) ⌝ }
-    ensures { λ r. ⌜ (r ≡ numberOf refusal) × (now (told .exit) ≡ begun (detailsOf refusal) (now (told .entry))) ⌝ }
-{
-    match refusal {
-        Refusal::EmptySide(side) => tell_side(side, told),
-        _ => {
-            told[0] = refusal.first_detail() as i64;
-            refusal.number()
-        }
-    }
-}
 
 fn tell_verdict(verdict: Verdict, told: &mut [i64]) -> u32
     requires { ⌜ 5 ≤ length (now told) ⌝ }
@@ -119,22 +75,6 @@ pub extern "C" fn matuviso_validate_tree(words: &[i32], work: &mut [i32], told: 
         return 8;
     }
     tell_verdict(validate_tree(words, work), told)
-}
-
-// Reads the seven in their order.
-fn take_seven(seven: &[i32]) -> PredictionData
-    requires { ⌜ 7 ≤ length (now seven) ⌝ }
-    ensures { λ r. ⌜ r ≡ dataOf (now (seven .entry)) ⌝ }
-{
-    PredictionData {
-        left: seven[0],
-        top: seven[1],
-        toptop: seven[2],
-        topleft: seven[3],
-        topright: seven[4],
-        leftleft: seven[5],
-        toprightright: seven[6],
-    }
 }
 
 // Fills the cells of a pixel whose neighbours are the seven of `data`.

@@ -20,7 +20,7 @@ pub const MOST_NODES: usize = 1_048_575;
 pub const WORK: usize = 10_762;
 
 /// "Split: property 0..255, value, left, right, 0. Leaf: -1, predictor 0..13, offset, multiplier, id."
-fn in_form(node: &[i32; 5]) -> bool {
+pub fn in_form(node: &[i32; 5]) -> bool {
     match node {
         [0..=255, _, _, _, 0] => true,
         [-1, 0..=13, _, _, _] => true,

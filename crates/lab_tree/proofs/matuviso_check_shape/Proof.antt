@@ -1,7 +1,7 @@
 -- `matuviso_check_shape` meets its promise: the library's verdict, told.
 use borrow.Author.Needs.{needs}
 use borrow.Author.Tests.{lt-leb, le-leb}
-use Rattle.lab_tree.proofs.Telling.{short, told-of}
+use Rattle.told.proofs.Telling.{short, told-of}
 use Rattle.lab_tree.proofs.matuviso_check_shape.Statement.{statement}
 use Rattle.lab_tree.proofs.matuviso_check_shape.Tie as tie
 

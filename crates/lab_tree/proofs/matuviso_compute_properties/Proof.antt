@@ -2,7 +2,7 @@
 use borrow.Author.Needs.{needs}
 use borrow.Author.Tests.{lt-leb, le-leb}
 use mir.Facts.{toZ-ofZ}
-use Rattle.lab_tree.proofs.Telling.{short, told-of}
+use Rattle.told.proofs.Telling.{short, told-of}
 use Rattle.lab_tree.proofs.matuviso_compute_properties.Statement.{statement}
 use Rattle.lab_tree.proofs.matuviso_compute_properties.Tie as tie
 

@@ -11,8 +11,8 @@ use native.Mathlib.Omega.{arith}
 use Prim.Native.Nat.{_<_, _≤_, _^_}
 use Rattle.nodes.specs.Mask.{maskOf, said}
 use Rattle.nodes.specs.declared.mask.Masked.{Masked}
-use Rattle.lab_tree.specs.Told.{room}
-use Rattle.lab_tree.proofs.Telling.{one, short, given, refused}
+use Rattle.told.specs.Told.{room}
+use Rattle.told.proofs.Telling.{one, short, given, refused}
 use Rattle.lab_tree.proofs.matuviso_property_mask.Statement.{statement}
 use Rattle.lab_tree.proofs.matuviso_property_mask.Tie as tie
 

@@ -1,7 +1,7 @@
 -- `matuviso_validate_tree` meets its promise: the library's verdict, told, and the work area as the library leaves it.
 use borrow.Author.Needs.{needs}
 use borrow.Author.Tests.{lt-leb, le-leb}
-use Rattle.lab_tree.proofs.Telling.{short, told-of}
+use Rattle.told.proofs.Telling.{short, told-of}
 use Rattle.lab_tree.proofs.matuviso_validate_tree.Statement.{statement}
 use Rattle.lab_tree.proofs.matuviso_validate_tree.Tie as tie
 

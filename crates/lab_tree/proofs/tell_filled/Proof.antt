@@ -1,7 +1,7 @@
 -- `tell_filled` meets its contract: 0, or what is told of the refusal.
 use borrow.Author.Needs.{needs}
 use mathlib.Core.Path.{refl, sym, ap}
-use Rattle.lab_tree.proofs.Telling.{refused}
+use Rattle.told.proofs.Telling.{refused}
 use Rattle.cells.specs.Cells.{said}
 use Rattle.lab_tree.proofs.tell_filled.Statement.{statement}
 use Rattle.lab_tree.proofs.tell_filled.Tie as tie

@@ -1,7 +1,7 @@
 -- `tell_verdict` meets its contract: 0, or what is told of the refusal.
 use borrow.Author.Needs.{needs}
 use mathlib.Core.Path.{refl, sym, ap}
-use Rattle.lab_tree.proofs.Telling.{refused}
+use Rattle.told.proofs.Telling.{refused}
 use Rattle.validation.specs.Verdict.{saidVerdict}
 use Rattle.lab_tree.proofs.tell_verdict.Statement.{statement}
 use Rattle.lab_tree.proofs.tell_verdict.Tie as tie

@@ -4,9 +4,9 @@ use mir.Facts.{toZ-pos}
 use mir.Syntax.{w64}
 use native.Mathlib.Omega.{arith}
 use Prim.Native.Nat.{_<_, _^_}
-use Rattle.lab_tree.proofs.Telling.{alone}
-use Rattle.lab_tree.proofs.tell.Statement.{statement}
-use Rattle.lab_tree.proofs.tell.Tie as tie
+use Rattle.told.proofs.Telling.{alone}
+use Rattle.told.proofs.tell.Statement.{statement}
+use Rattle.told.proofs.tell.Tie as tie
 
 enum-known-refusal : tie.Need-enum-known-refusal
 enum-known-refusal c = search needs

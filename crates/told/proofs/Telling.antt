@@ -12,13 +12,20 @@ use Rattle.refusal.specs.Paper.{Outcome, gives, numberOf, detailsOf, paper}
 use Rattle.refusal.proofs.Refusal.{the-type}
 use Rattle.refusal.specs.declared.Refusal.{Refusal}
 use Rattle.refusal.specs.declared.Refusal.the-variants.{WordCount, TooMany, NotInForm, OutOfPlace, EmptyList, TooDeep, EmptySide, TooSmall, WideOffset, TooFewCells, WrongSize, HeaderRange, OutOfTurn, NoSuchColour}
-use Rattle.lab_tree.specs.Told.{Tells, begun}
+use Rattle.told.specs.Told.{Tells, begun}
 
 -- ---- stores in a row from the front, as one list
 
 pub one : (a : ℤ) (w : List ℤ) → 5 ≤ length w → set w 0 a ≡ a ∷ drop 1 w
 one a [] h = absurd (omega arith)
 one a (_ ∷ w) h = refl
+
+pub four : (a b c d : ℤ) (w : List ℤ) → 5 ≤ length w → set (set (set (set w 0 a) 1 b) 2 c) 3 d ≡ a ∷ b ∷ c ∷ d ∷ drop 4 w
+four a b c d [] h = absurd (omega arith)
+four a b c d (_ ∷ []) h = absurd (omega arith)
+four a b c d (_ ∷ _ ∷ []) h = absurd (omega arith)
+four a b c d (_ ∷ _ ∷ _ ∷ []) h = absurd (omega arith)
+four a b c d (_ ∷ _ ∷ _ ∷ _ ∷ w) h = refl
 
 pub five : (a b c d e : ℤ) (w : List ℤ) → 5 ≤ length w → set (set (set (set (set w 0 a) 1 b) 2 c) 3 d) 4 e ≡ a ∷ b ∷ c ∷ d ∷ e ∷ drop 5 w
 five a b c d e [] h = absurd (omega arith)

@@ -10,9 +10,9 @@ use lib.Signed.{mag}
 use mir.Val.{toZ, ofZ, hbits}
 use Prim.Native.Nat.{_<_, _^_}
 use Rattle.integer.proofs.Bounded.{held}
-use Rattle.lab_tree.proofs.Telling.{five}
-use Rattle.lab_tree.proofs.tell_side.Statement.{statement}
-use Rattle.lab_tree.proofs.tell_side.Tie as tie
+use Rattle.told.proofs.Telling.{five}
+use Rattle.told.proofs.tell_side.Statement.{statement}
+use Rattle.told.proofs.tell_side.Tie as tie
 
 -- a word that is widened is the word
 is-widened : (z : ℤ) {r : ℤ} → mag r < 2 ^ hbits w64 → r ≡ toZ w32 (ofZ w32 z) → mag z < 2 ^ hbits w32 → toZ w64 (ofZ w64 r) ≡ z
