@@ -9,7 +9,8 @@ mod random;
 
 use decoder::error::Error;
 use decoder::frame::modular::tree::{
-    TreeNode, private_compute_properties, private_used_property_mask, private_validate_tree,
+    FlatTree, PredictionResult, TreeNode, private_compute_properties, private_predict,
+    private_used_property_mask, private_validate_tree,
 };
 use decoder::headers::modular::{DEFAULTS, MOST, WeightedHeader};
 use decoder::image::Image;
@@ -24,7 +25,7 @@ const MAX: i32 = i32::MAX;
 /// The records, 32 words each, and how many there are of each kind.
 struct Records {
     bytes: Vec<u8>,
-    counts: [u32; 12],
+    counts: [u32; 15],
 }
 
 impl Records {
@@ -40,7 +41,7 @@ impl Records {
 
 fn main() {
     let path = std::env::args().nth(1).expect("the file to write");
-    let mut records = Records { bytes: Vec::new(), counts: [0; 12] };
+    let mut records = Records { bytes: Vec::new(), counts: [0; 15] };
     let random = &mut Random::new(12);
     highest_bits(&mut records, random);
     error_weights(&mut records, random);
@@ -51,6 +52,7 @@ fn main() {
     weighted_pixels(&mut records, random);
     trees(&mut records, random);
     cells(&mut records, random);
+    walks(&mut records, random);
     std::fs::write(&path, &records.bytes).expect("a file that can be written");
     println!("seed {SEED:#x}; {} bytes", records.bytes.len());
     let names = [
@@ -65,6 +67,9 @@ fn main() {
         "used_property_mask",
         "validate_tree",
         "compute_properties",
+        "predict",
+        "build_flat_tree",
+        "predict_flat",
     ];
     for (kind, name) in (1..).zip(names) {
         println!("kind {kind:>2} {name:<24}{:>5} records", records.counts[kind]);
@@ -281,7 +286,7 @@ fn weighted_pixels(records: &mut Records, random: &mut Random) {
 
 /// A tree of at most 8 splits in 12 words: which nodes are splits, a bit a node; how many nodes; the splits'
 /// properties, a byte each; their values. The rest follows: children lie where `Tree::read` puts them, and
-/// a leaf is -1, 0, 0, 1, 0.
+/// leaves are those of `put_leaves`.
 fn packed(words: &[i32]) -> [i32; 12] {
     let nodes: &[[i32; 5]] = words.as_chunks().0;
     let splits = nodes.iter().enumerate().filter(|(_, node)| node[0] >= 0);
@@ -298,6 +303,14 @@ fn packed(words: &[i32]) -> [i32; 12] {
         *word = i32::from_le_bytes(*four);
     }
     packed
+}
+
+/// No two leaves of a tree are alike: each is made from its place.
+fn put_leaves(words: &mut [i32]) {
+    let nodes = words.as_chunks_mut::<5>().0.iter_mut();
+    for (place, node) in (0..).zip(nodes).filter(|(_, node)| node[0] < 0) {
+        *node = [-1, place % 14, if place % 2 == 1 { -3 } else { 100 * place }, place + 1, place];
+    }
 }
 
 /// Document 01's trees, then any of up to 8 splits: first the masks of all, then the verdicts.
@@ -318,15 +331,9 @@ fn trees(records: &mut Records, random: &mut Random) {
     }
     for k in 0..300 {
         let style = grown::Style::any(random, k % 9);
-        let mut words = grown::tree(random, &style);
-        words
-            .as_chunks_mut()
-            .0
-            .iter_mut()
-            .filter(|node: &&mut [i32; 5]| node[0] < 0)
-            .for_each(|node| *node = leaf);
-        trees.push(words);
+        trees.push(grown::tree(random, &style));
     }
+    trees.iter_mut().for_each(|words| put_leaves(words));
     let nodes = |words: &[i32]| -> Vec<TreeNode> { words.as_chunks().0.iter().map(TreeNode::of).collect() };
     for words in &trees {
         records.add(9, &[&packed(words), &[private_used_property_mask(&nodes(words)) as i32]]);
@@ -379,5 +386,58 @@ fn cells(records: &mut Records, random: &mut Random) {
         two[..row.len()].copy_from_slice(&row);
         let middle = [old, property, row.len() as i32];
         records.add(11, &[&head, &seven[..6], &middle, &two, &after[2..]]);
+    }
+}
+
+/// Every tree with splits on the first sixteen cells, on cells next to its values or any: first the direct walks, then
+/// the flat records one by one, then the flat walks. Cells 4 to 10 are the seven neighbours too.
+fn walks(records: &mut Records, random: &mut Random) {
+    let mut asks = Vec::new();
+    for k in 0..240 {
+        let style = grown::Style::any(random, k % 9);
+        let mut words = grown::tree(random, &style);
+        let mut cells = [(); 16].map(|_| random.word());
+        put_leaves(&mut words);
+        for node in words.as_chunks_mut::<5>().0.iter_mut().filter(|node| node[0] >= 0) {
+            node[0] %= 16;
+            if random.once_in(2) {
+                cells[node[0] as usize] = node[1].saturating_add(random.below(2) as i32);
+            }
+        }
+        asks.push((words, cells));
+    }
+    let nodes = |words: &[i32]| -> Vec<TreeNode> { words.as_chunks().0.iter().map(TreeNode::of).collect() };
+    // The Rust counts no hops: they are the leaf's depth, found by going back up, or half of it rounded up.
+    let depth = |words: &[i32], leaf: u32| {
+        let (mut place, mut depth) = (leaf as i32, 0);
+        while place > 0 {
+            let is_parent = |node: &[i32; 5]| node[0] >= 0 && (node[2] == place || node[3] == place);
+            place = words.as_chunks().0.iter().position(is_parent).unwrap() as i32;
+            depth += 1;
+        }
+        depth
+    };
+    let answer = |result: PredictionResult, hops: u32| {
+        let [low, high] = halves(result.guess);
+        [low, high, (result.context | result.multiplier << 8 | hops << 16) as i32]
+    };
+    for (words, cells) in &asks {
+        let seven = PredictionData::of(&cells[4..]);
+        let result = private_predict(&nodes(words), seven, None, &mut cells.clone());
+        let hops = depth(words, result.context);
+        records.add(12, &[&packed(words), cells, &answer(result, hops)]);
+    }
+    for (k, (words, _)) in asks.iter().enumerate() {
+        let six = FlatTree::of(&nodes(words)).unwrap().words();
+        let six: &[[i32; 6]] = six.as_chunks().0;
+        for (place, record) in six.iter().enumerate().skip(k % 3).step_by(if k < 18 { 1 } else { 3 }) {
+            records.add(13, &[&packed(words), &[six.len() as i32, place as i32], record]);
+        }
+    }
+    for (words, cells) in &asks {
+        let seven = PredictionData::of(&cells[4..]);
+        let result = FlatTree::of(&nodes(words)).unwrap().predict(seven, None, &mut cells.clone());
+        let hops = depth(words, result.context).div_ceil(2);
+        records.add(14, &[&packed(words), cells, &answer(result, hops)]);
     }
 }

@@ -17,6 +17,10 @@
 //   empty side
 // 11 compute_properties: word 1 the mask; 2 x; 3 y; 4.. left, top, toptop, topleft, topright, leftleft; 10 the old cell 9; 11
 //   the weighted property; 12 the number of references, at most 2; 13, 14 the references; 15.. cells 2 to 17
+// 12 predict: words 1 to 12 as in 9; 13.. the sixteen cells, of which 4 to 10 are the seven too; 29, 30 the guess; 31 the
+//   context, the multiplier, a byte each, and the hops
+// 13 build_flat_tree: words 1 to 12 as in 9; 13 how many records; 14 the place of one; 15.. its six words
+// 14 predict_flat: as 12
 ghost use Prim.Native.Nat.{_+_, _≤_};
 ghost use lib.ListN.{length};
 use crate::fillings;
@@ -24,6 +28,7 @@ use crate::outcome::Outcome;
 use crate::outcome::told;
 use crate::pixels;
 use crate::trees;
+use crate::walks;
 use crate::words;
 use arith::Weight;
 use colour::restore::Restored;
@@ -177,6 +182,9 @@ pub fn hold(bytes: &[u8]) -> Outcome
         9 => trees::tree(bytes, false),
         10 => trees::tree(bytes, true),
         11 => fillings::filling(bytes),
+        12 => walks::walk(bytes, 12),
+        13 => walks::walk(bytes, 13),
+        14 => walks::walk(bytes, 14),
         _ => Outcome::NoForm,
     }
 }

@@ -8,6 +8,7 @@ mod outcome;
 mod pixels;
 mod tally;
 mod trees;
+mod walks;
 mod words;
 
 use outcome::Outcome;

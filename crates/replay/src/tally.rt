@@ -12,6 +12,9 @@ pub struct Tally {
     pub mask: u64,
     pub validate_tree: u64,
     pub compute_properties: u64,
+    pub predict: u64,
+    pub build_flat_tree: u64,
+    pub predict_flat: u64,
 }
 
 fn one_more(n: u64) -> u64 {
@@ -33,6 +36,9 @@ impl Tally {
             mask: 0,
             validate_tree: 0,
             compute_properties: 0,
+            predict: 0,
+            build_flat_tree: 0,
+            predict_flat: 0,
         }
     }
 
@@ -73,6 +79,15 @@ impl Tally {
             11 => {
                 self.compute_properties = one_more(self.compute_properties);
             }
+            12 => {
+                self.predict = one_more(self.predict);
+            }
+            13 => {
+                self.build_flat_tree = one_more(self.build_flat_tree);
+            }
+            14 => {
+                self.predict_flat = one_more(self.predict_flat);
+            }
             _ => {}
         }
         self
@@ -90,6 +105,9 @@ impl Tally {
         line(b"compute_used_property_mask: ", self.mask);
         line(b"validate_tree: ", self.validate_tree);
         line(b"compute_properties: ", self.compute_properties);
+        line(b"predict: ", self.predict);
+        line(b"build_flat_tree: ", self.build_flat_tree);
+        line(b"predict_flat: ", self.predict_flat);
     }
 }
 

@@ -18,7 +18,7 @@ fn put_word(list: &mut [i32], at: usize, word: i32)
 }
 
 // The node at a place.
-fn put(list: &mut [i32], place: usize, first: i32, second: i32, third: i32, fourth: i32)
+fn put(list: &mut [i32], place: usize, first: i32, second: i32, third: i32, fourth: i32, fifth: i32)
     requires { ⌜ 5 * place + 5 ≤ length (now list) ⌝ }
 {
     let at = 5 * place;
@@ -26,7 +26,7 @@ fn put(list: &mut [i32], place: usize, first: i32, second: i32, third: i32, four
     put_word(list, at + 1, second);
     put_word(list, at + 2, third);
     put_word(list, at + 3, fourth);
-    put_word(list, at + 4, 0);
+    put_word(list, at + 4, fifth);
 }
 
 // Split k of the record.
@@ -42,12 +42,34 @@ fn put_split(list: &mut [i32], place: usize, k: usize, bytes: &[u8])
         value,
         (2 * k + 1) as i32,
         (2 * k + 2) as i32,
+        0,
+    );
+}
+
+// No two leaves of a tree are alike.
+fn put_leaf(list: &mut [i32], place: usize)
+    requires { ⌜ (5 * place + 5 ≤ length (now list)) × (place < 17) ⌝ }
+{
+    let predictor = (place % 14) as i32;
+    let offset = if place % 2 == 1 {
+        -3
+    } else {
+        (100 * place) as i32
+    };
+    put(
+        list,
+        place,
+        -1,
+        predictor,
+        offset,
+        (place + 1) as i32,
+        place as i32,
     );
 }
 
 // A split where the low bit says so, else a leaf; the splits put so far.
 fn put_node(list: &mut [i32], place: usize, k: usize, bits: u32, bytes: &[u8]) -> usize
-    requires { ⌜ (5 * place + 5 ≤ length (now list)) × (k ≤ 8) × (128 ≤ length (now bytes)) ⌝ }
+    requires { ⌜ (5 * place + 5 ≤ length (now list)) × (place < 17) × (k ≤ 8) × (128 ≤ length (now bytes)) ⌝ }
     ensures { λ r. ⌜ r ≤ 8 ⌝ }
 {
     if bits % 2 == 1 {
@@ -56,11 +78,11 @@ fn put_node(list: &mut [i32], place: usize, k: usize, bits: u32, bytes: &[u8]) -
             return k + 1;
         }
     }
-    put(list, place, -1, 0, 0, 1);
+    put_leaf(list, place);
     k
 }
 
-fn put_tree(list: &mut [i32], nodes: usize, bytes: &[u8])
+pub fn put_tree(list: &mut [i32], nodes: usize, bytes: &[u8])
     requires { ⌜ (5 * nodes ≤ length (now list)) × (nodes ≤ 17) × (128 ≤ length (now bytes)) ⌝ }
 {
     let mut bits = words::bits(bytes, 1);
