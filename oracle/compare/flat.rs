@@ -349,7 +349,7 @@ fn wide_guesses() {
 /// of the nodes that it enters.
 fn damaged() {
     let mut flattenings = Tally::new("build_flat_tree, damaged trees");
-    let mut walks = Tally::new("predict, the same");
+    let mut walks = Tally::new("predict, damaged trees");
     let random = &mut Random::new(42);
     for _ in 0..1_000_000 {
         let splits = random.below(21);
@@ -394,7 +394,17 @@ fn damage_record(random: &mut Random, records: &mut Vec<i32>) {
         2 if record[0] < 0 => record[3] = random.one_of(&[1, -1, 0, any]),
         2 | 3 => {
             let n = n as i32;
-            let edges = [first - 1, first + 1, k as i32, k as i32 + 1, n - 4, n - 3, 0, -1, any];
+            let edges = [
+                first.wrapping_sub(1),
+                first.wrapping_add(1),
+                k as i32,
+                k as i32 + 1,
+                n - 4,
+                n - 3,
+                0,
+                -1,
+                any,
+            ];
             record[4] = random.one_of(&edges);
         }
         4 => {
