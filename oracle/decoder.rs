@@ -385,6 +385,15 @@ pub mod predict {
 
     // What only this module sees of the state, in the library's order.
     impl WeightedPredictorState {
+        /// Equal ones on this memory, so that one can be asked beforehand.
+        pub fn alike<const N: usize>(header: &WeightedHeader, width: usize, memory: &[[u32; 5]]) -> [Self; N] {
+            [(); N].map(|_| {
+                let mut state = Self::new(header, width).unwrap();
+                state.fill(memory);
+                state
+            })
+        }
+
         /// The four sub-predictions and what they blend to.
         #[inline(always)]
         pub fn found(&self) -> [i64; 5] {

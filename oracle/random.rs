@@ -74,6 +74,11 @@ impl Random {
         })
     }
 
+    /// The weighted state's memory for a width, any words: five a position, two halves of width + 2.
+    pub fn memory(&mut self, width: usize) -> Vec<[u32; 5]> {
+        (0..2 * (width + 2)).map(|_| [(); 5].map(|_| self.word() as u32)).collect()
+    }
+
     /// The three words of a pixel: of `word`, of anything, around 0, or around both ends,
     /// which lie side by side modulo 2^32.
     pub fn three(&mut self) -> [i32; 3] {

@@ -361,13 +361,8 @@ fn cells(records: &mut Records, random: &mut Random) {
         let (width, header) = (6, WeightedHeader::of(&DEFAULTS));
         let (x, y) = (random.below(width), random.below(4));
         let (seven, old) = (random.seven(), random.word());
-        let memory: Vec<[u32; 5]> =
-            (0..2 * (width + 2)).map(|_| [(); 5].map(|_| random.word() as u32)).collect();
-        let [mut state, mut equal] = [(); 2].map(|_| {
-            let mut state = WeightedPredictorState::new(&header, width).unwrap();
-            state.fill(&memory);
-            state
-        });
+        let memory = random.memory(width);
+        let [mut state, mut equal] = WeightedPredictorState::alike(&header, width, &memory);
         let weighted = k % 2 == 1;
         let property = match weighted {
             true => equal.predict_and_property((x, y), width, &PredictionData::of(&seven)).1,

@@ -116,13 +116,8 @@ fn weighed() {
         let width = 1 + random.below(6);
         let (x, y) = (random.below(width), random.below(4));
         let header = WeightedHeader::of(&DEFAULTS);
-        let memory: Vec<[u32; 5]> =
-            (0..2 * (width + 2)).map(|_| [(); 5].map(|_| random.word() as u32)).collect();
-        let [mut state, mut equal] = [(); 2].map(|_| {
-            let mut state = WeightedPredictorState::new(&header, width).unwrap();
-            state.fill(&memory);
-            state
-        });
+        let memory = random.memory(width);
+        let [mut state, mut equal] = WeightedPredictorState::alike(&header, width, &memory);
         let (data, row) = (random.seven(), [random.word(), random.word()]);
         let property = equal.predict_and_property((x, y), width, &PredictionData::of(&data)).1;
         let mask = some_mask(random) | (random.below(2) << 15) as u32;

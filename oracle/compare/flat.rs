@@ -296,13 +296,9 @@ fn weighed() {
         }
         let tree = checks.grown(words);
         let width = 1 + random.below(6);
-        let memory: Vec<[u32; 5]> =
-            (0..2 * (width + 2)).map(|_| [(); 5].map(|_| random.word() as u32)).collect();
-        let [mut state, mut second, mut equal] = [(); 3].map(|_| {
-            let mut state = WeightedPredictorState::new(&WeightedHeader::of(&DEFAULTS), width).unwrap();
-            state.fill(&memory);
-            state
-        });
+        let memory = random.memory(width);
+        let header = WeightedHeader::of(&DEFAULTS);
+        let [mut state, mut second, mut equal] = WeightedPredictorState::alike(&header, width, &memory);
         let mut cells = some_cells(random, &tree.words, tree.most + 1);
         let data = random.seven();
         let seven = PredictionData::of(&data);
