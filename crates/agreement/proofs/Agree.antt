@@ -38,7 +38,7 @@ module _
     both : Alike words n sound some cells covers d wp few offsets (walkFrom words cells n d wp n 0 0) (recordCount words n) 0 0
     both = ends-alike words n sound some cells covers d wp few offsets (walkFrom words cells n d wp n 0 0) (recordCount words n) 0 0 (omega arith) (omega arith) (rw first-place both-start)
 
-    counted-records : counted (recordWords words (recordCount words n)) ≡ gives (recordCount words n)
+    pub counted-records : counted (recordWords words (recordCount words n)) ≡ gives (recordCount words n)
     counted-records =
         let long = words-long words n sound some (recordCount words n) (omega arith) in
         let even : length (recordWords words (recordCount words n)) % 6 ≡ 0 = omega (arith, long) in

@@ -72,10 +72,10 @@ module _ {words work work′ : List ℤ} (accepted : Validates words work Accept
   accepted-shape : shape words ≡ gives tt
   accepted-shape = both-given (shape words) _ (sym (accepted .answers)) .0
 
-  sound : Sound words
+  pub sound : Sound words
   sound = sound-list words (accepted-shape, some)
 
-  counted-nodes : counted words ≡ gives (nodes words)
+  pub counted-nodes : counted words ≡ gives (nodes words)
   counted-nodes =
       let even : length words % 5 ≡ 0 = omega (arith, sound .whole) in
       simp (eq-eqb _ _ even, le-leb (nodes words) 1048575 (sound .few))

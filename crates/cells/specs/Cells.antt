@@ -6,12 +6,17 @@ use Prim.Native.Nat.{ℕ, _+_, _/_, _%_, _^_, _≤_}
 use lib.Dec.{ltb, leb, eqb}
 use lib.IntN.{ℤ, pos, _+ℤ_, _-ℤ_}
 use lib.ListN.{length, getD, set, take, drop}
+use Rattle.integer.specs.Fill.{tabulate}
 use Rattle.integer.specs.Order.{if, magnitude}
 use Rattle.integer.specs.Word.{wrap}
 use Rattle.predict.specs.declared.neighbours.PredictionData.{PredictionData}
 use Rattle.refusal.specs.Paper.{Outcome, gives, refuses, paper, readBack, reads-back, one-answer, one-value}
 use Rattle.cells.specs.declared.Filled.{Filled}
 use Rattle.cells.specs.declared.Filled.the-variants.{Done, Refused}
+
+-- before a channel's first pixel: cells 0 and 1 are channel and stream, the rest 0
+abbrev pub startCells : ℤ → ℤ → ℕ → List ℤ
+startCells channel stream n = set (set (tabulate (λ k. pos 0) n) 0 channel) 1 stream
 
 -- whether one of `count` bits from bit `low` on is set
 abbrev pub uses : ℕ → ℕ → ℕ → Bool
@@ -95,6 +100,14 @@ pub record Fills (mask x y : ℕ) (d : PredictionData) (property : ℤ) (referen
   pub answers : said r ≡ outcome mask x y (length references) (length cells)
   pub holds : cells′ ≡ after (filledCells mask x y d property references cells) (outcome mask x y (length references) (length cells)) cells
 
+-- 10 where fewer than 16 are lent
+abbrev pub starting : ℕ → Outcome Unit
+starting cells = if (ltb cells 16) (refuses 10 (pos 16 ∷ [])) (gives tt)
+
+pub record Starts (channel stream : ℤ) (cells : List ℤ) (r : Filled) (cells′ : List ℤ) : Type 0 where
+  pub answers : said r ≡ starting (length cells)
+  pub holds : cells′ ≡ after (startCells channel stream (length cells)) (starting (length cells)) cells
+
 -- ---- determinacy
 
 abbrev unsaid : Outcome Unit → Filled
@@ -108,3 +121,7 @@ said-again (Refused refusal) = ap Refused (reads-back refusal)
 pub fills-determined : {mask x y : ℕ} {d : PredictionData} {property : ℤ} {references cells : List ℤ} {r s : Filled} {a b : List ℤ}
     → Fills mask x y d property references cells r a → Fills mask x y d property references cells s b → (r ≡ s) × (a ≡ b)
 fills-determined {r = r} {s = s} p q = (one-answer said unsaid said-again r s (p .answers) (q .answers), one-value (p .holds) (q .holds))
+
+pub starts-determined : {channel stream : ℤ} {cells : List ℤ} {r s : Filled} {a b : List ℤ}
+    → Starts channel stream cells r a → Starts channel stream cells s b → (r ≡ s) × (a ≡ b)
+starts-determined {r = r} {s = s} p q = (one-answer said unsaid said-again r s (p .answers) (q .answers), one-value (p .holds) (q .holds))

@@ -14,7 +14,9 @@ ghost use Rattle.cells.specs.Cells.{
   inDomain,
   filledCells,
   Fills,
+  Starts,
 };
+use integer::clear;
 use integer::wrapping_abs;
 use integer::wrapping_add;
 use integer::wrapping_sub;
@@ -24,6 +26,19 @@ use refusal::Refusal;
 pub enum Filled {
     Done,
     Refused(Refusal),
+}
+
+// The cells before a channel's first pixel: 0 the channel, 1 the stream, the rest 0.
+pub fn start_cells(channel: i32, stream: i32, cells: &mut [i32]) -> Filled
+    ensures { λ r. ⌜ Starts «channel» «stream» (now (cells .entry)) r (now (cells .exit)) ⌝ }
+{
+    if cells.len() < 16 {
+        return Filled::Refused(Refusal::TooFewCells { needed: 16 });
+    }
+    clear(cells);
+    cells[0] = channel;
+    cells[1] = stream;
+    Filled::Done
 }
 
 // 2 y, 3 x.
@@ -118,13 +133,12 @@ fn fill_references(mask: u32, references: &[i32], cells: &mut [i32])
     }
 }
 
-// The cells that are needed: 16, and as many as the reference row has where it is copied. A slice of words is shorter than 2^61.
-fn cells_needed(mask: u32, references: usize) -> usize
-    requires { ⌜ references < 2 ^ 61 ⌝ }
-    ensures { λ r. ⌜ r ≡ cellsNeeded mask references ⌝ }
+// The cells that are needed: 16, and as many as the reference row has where it is copied.
+pub fn cells_needed(mask: u32, references: &[i32]) -> usize
+    ensures { λ r. ⌜ r ≡ cellsNeeded mask (length (now (references .entry))) ⌝ }
 {
     if mask / 65536 % 65536 != 0 {
-        16 + references
+        16 + references.len()
     } else {
         16
     }
@@ -176,7 +190,7 @@ pub fn compute_properties(
 ) -> Filled
     ensures { λ r. ⌜ Fills mask x y «data» «wp_property» (now (references .entry)) (now (cells .entry)) r (now (cells .exit)) ⌝ }
 {
-    let needed = cells_needed(mask, references.len());
+    let needed = cells_needed(mask, references);
     if in_domain(x, y, needed) {
         if cells.len() < needed {
             return Filled::Refused(Refusal::TooFewCells {

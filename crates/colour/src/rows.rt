@@ -9,7 +9,7 @@ pub enum RowCheck {
 }
 
 // Whether the plane has a row y of this width.
-fn has_row(length: usize, width: usize, y: usize) -> bool
+pub fn has_row(length: usize, width: usize, y: usize) -> bool
     ensures { λ r. ⌜ r ≡ isRow length width y ⌝ }
 {
     if width == 0 {
@@ -24,7 +24,7 @@ fn has_row(length: usize, width: usize, y: usize) -> bool
     if 1073741824 <= y {
         return false;
     }
-    y < length / width
+    y * width < length
 }
 
 // Row y, as that part of the plane; an empty part if it is refused.

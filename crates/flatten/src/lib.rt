@@ -14,6 +14,7 @@ mod offsets;
 mod records;
 mod ring;
 
+use integer::clear;
 use offsets::check_offsets;
 use records::write_record;
 use refusal::Refusal;
@@ -48,16 +49,6 @@ fn write_records(words: &[i32], lent: &mut [i32], output: &mut [i32]) -> usize
         k += 1;
     }
     k
-}
-
-fn clear(lent: &mut [i32])
-    ensures { λ _. ⌜ now (lent .exit) ≡ tabulate (λ i. pos 0) (length (now (lent .entry))) ⌝ }
-{
-    let mut i = 0;
-    while i < lent.len() {
-        lent[i] = 0;
-        i += 1;
-    }
 }
 
 // The ring is clear afterwards.

@@ -28,14 +28,14 @@ small : {e : PixelErrors} → IsWord e → mag (e .error) < 2 ^ 31
 small {e} is = rw (is .wrapped) at (wrap-below (e .error) .size)
 
 -- of none, of a pixel, and so of all
-none-word : IsWord none
+pub none-word : IsWord none
 none-word = record { wrapped = refl }
 
-left-word : (f : Found) (v : ℤ) → IsWord (errorsOf f v)
+pub left-word : (f : Found) (v : ℤ) → IsWord (errorsOf f v)
 unfolding errorsOf
 left-word f v = record { wrapped = let z = f .pred -ℤ eighths v in wrap-in-range (wrap z) (wrap-fits z) }
 
-one-more : (past : List PixelErrors) (e : PixelErrors) → ((j : ℕ) → IsWord (getD past j none)) → IsWord e → (j : ℕ) → IsWord (getD (past ++ (e ∷ [])) j none)
+pub one-more : (past : List PixelErrors) (e : PixelErrors) → ((j : ℕ) → IsWord (getD past j none)) → IsWord e → (j : ℕ) → IsWord (getD (past ++ (e ∷ [])) j none)
 one-more [] e words is zero = is
 one-more [] e words is (suc j) = none-word
 one-more (a ∷ past) e words is zero = words zero

@@ -49,7 +49,7 @@ one-pixel b d v a p q = rw (p, q)
 
 -- the place of the pixel after k
 module _ (width k : ℕ) (inside : k % width < width) where
-  next-place : (t : Bool) → eqb (k % width + 1) width ≡ t
+  pub next-place : (t : Bool) → eqb (k % width + 1) width ≡ t
       → (suc k % width ≡ if t 0 (k % width + 1)) × (suc k / width ≡ if t (k / width + 1) (k / width))
   next-place true e =
       let ends : k % width + 1 ≡ width = eqb-true (k % width + 1) width e in
@@ -61,7 +61,7 @@ module _ (width k : ℕ) (inside : k % width < width) where
       rw is (digits-mod (k / width) more, digits-div (k / width) more)
 
 -- the blend's bound: no 32-bit neighbours and errors lead to a prediction out of range
-possible-found : (h : WeightedHeader) (d : PredictionData) (e : TrueErrors) (s : Four) → inRange h ≡ true → Words d
+pub possible-found : (h : WeightedHeader) (d : PredictionData) (e : TrueErrors) (s : Four) → inRange h ≡ true → Words d
     → (mag (e .w) < 2 ^ 31) × (mag (e .n) < 2 ^ 31) × (mag (e .nw) < 2 ^ 31) × (mag (e .ne) < 2 ^ 31) → possible (found h d e s) ≡ true
 possible-found h d e s ranged words small =
     let neighbours : bounds.Words d =

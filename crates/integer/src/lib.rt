@@ -3,7 +3,9 @@
 ghost use mathlib.Core.Path.{_≡_};
 ghost use Prim.Native.Nat.{_^_};
 ghost use lib.IntN.{pos, _+ℤ_, _-ℤ_};
+ghost use lib.ListN.{length};
 ghost use lib.Signed.{shrZ};
+ghost use Rattle.integer.specs.Fill.{tabulate};
 ghost use Rattle.integer.specs.Order.{smaller, larger, magnitude};
 ghost use Rattle.integer.specs.Word.{wrap, bitsOf};
 
@@ -77,4 +79,15 @@ pub fn from_bits(bits: u32) -> i32
     ensures { λ r. ⌜ r ≡ wrap (pos bits) ⌝ }
 {
     low_word(bits as i64)
+}
+
+// All lent words become 0.
+pub fn clear(lent: &mut [i32])
+    ensures { λ _. ⌜ now (lent .exit) ≡ tabulate (λ i. pos 0) (length (now (lent .entry))) ⌝ }
+{
+    let mut i = 0;
+    while i < lent.len() {
+        lent[i] = 0;
+        i += 1;
+    }
 }

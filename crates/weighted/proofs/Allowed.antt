@@ -31,6 +31,12 @@ module _ {width x : ℕ} where
     ltb-true _ _ (and-right (isWidth width) (ltb x width) e),
   )
 
+-- a place of the picture
+pub place-is : (s : WeightedState) → isPlace s ≡ true → (s .width ≤ 65536) × (s .x < s .width) × (s .y < 2 ^ 30)
+place-is s e =
+    let column = column-is (and-left (isWidth (s .width) && ltb (s .x) (s .width)) (ltb (s .y) (2 ^ 30)) e) in
+    (column .0, column .1, ltb-true _ _ (and-right (isWidth (s .width) && ltb (s .x) (s .width)) (ltb (s .y) (2 ^ 30)) e))
+
 pub too-wide : {width : ℕ} (x : ℕ) → 65536 < width → (isWidth width && ltb x width) ≡ false
 too-wide x h = simp (lt-leb _ _ h, and-false)
 
@@ -43,6 +49,7 @@ test-passed false n d next e = absurd (let z : _≡_ {A = ℕ} 0 1 = cc in omega
 -- past all tests
 pub record Granted (s : WeightedState) (turn : Bool) (lent : ℕ) : Type 0 where
   pub in-range : inRange (s .header) ≡ true
+  pub placed : isPlace s ≡ true
   pub narrow : s .width ≤ 65536
   pub inside : s .x < s .width
   pub row : s .y < 2 ^ 30
@@ -74,12 +81,13 @@ module _ (s : WeightedState) (turn : Bool) (lent : ℕ) where
       let place = test-passed _ _ _ _ (header .1) in
       let its-turn = test-passed _ _ _ _ (place .1) in
       let memory = test-passed _ _ _ _ (its-turn .1) in
-      let column = column-is (and-left (isWidth (s .width) && ltb (s .x) (s .width)) (ltb (s .y) (2 ^ 30)) (place .0)) in
+      let stands = place-is s (place .0) in
       record {
         in-range = header .0;
-        narrow = column .0;
-        inside = column .1;
-        row = ltb-true _ _ (and-right (isWidth (s .width) && ltb (s .x) (s .width)) (ltb (s .y) (2 ^ 30)) (place .0));
+        placed = place .0;
+        narrow = stands .0;
+        inside = stands .1;
+        row = stands .2;
         due = its-turn .0;
         room = leb-true _ _ (memory .0);
       }

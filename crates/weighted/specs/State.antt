@@ -122,6 +122,10 @@ onward s =
       found = s .found;
     }
 
+-- outside of the picture there is none
+abbrev pub moved : WeightedState → WeightedState
+moved s = if (isPlace s) (onward s) s
+
 abbrev pub puts : WeightedState → List ℕ → Outcome WeightedState
 puts s m = allowed s (s .asked && possible (s .found)) (length m) (gives (onward s))
 

@@ -1,13 +1,14 @@
 // The state: a value that keeps its place. Ask and put alternate in raster order.
 ghost use mathlib.Core.Bool.{_&&_};
 ghost use mathlib.Core.Path.{_≡_};
-ghost use Prim.Native.Nat.{_≤_, _<_, _^_};
 ghost use Rattle.blend.specs.Blend.{possible};
 ghost use Rattle.refusal.specs.Paper.{gives};
 ghost use Rattle.weighted.specs.State.{
   allowed,
   answered,
-  onward,
+  atStart,
+  isPlace,
+  moved,
   Opens,
   Asks,
   Puts,
@@ -68,7 +69,28 @@ pub enum Check {
 }
 
 impl WeightedState {
-    // A state before the first pixel of a picture of this width. Clears the memory that it needs.
+    // The state before the first pixel of a picture of this width.
+    pub fn start(header: WeightedHeader, width: usize) -> WeightedState
+        ensures { λ r. ⌜ r ≡ atStart header width ⌝ }
+    {
+        let found = Found {
+            p0: 0,
+            p1: 0,
+            p2: 0,
+            p3: 0,
+            pred: 0,
+        };
+        WeightedState {
+            header,
+            width,
+            x: 0,
+            y: 0,
+            asked: false,
+            found,
+        }
+    }
+
+    // The same, over memory that is cleared as far as it is needed.
     pub fn open(header: WeightedHeader, width: usize, memory: &mut [u32]) -> Opened
         ensures { λ r. ⌜ Opens header width (now (memory .entry)) r (now (memory .exit)) ⌝ }
     {
@@ -88,21 +110,20 @@ impl WeightedState {
             });
         }
         clear(memory, needed);
-        let found = Found {
-            p0: 0,
-            p1: 0,
-            p2: 0,
-            p3: 0,
-            pred: 0,
-        };
-        Opened::Is(WeightedState {
-            header,
-            width,
-            x: 0,
-            y: 0,
-            asked: false,
-            found,
-        })
+        Opened::Is(WeightedState::start(header, width))
+    }
+
+    // Whether the next or pending pixel is one of the picture.
+    fn is_place(self) -> bool
+        ensures { λ r. ⌜ r ≡ isPlace self ⌝ }
+    {
+        if 65536 < self.width {
+            return false;
+        }
+        if self.width <= self.x {
+            return false;
+        }
+        self.y < 1073741824
     }
 
     // Whether a call may go on, in the order of the paper: header, place, turn, memory.
@@ -113,13 +134,7 @@ impl WeightedState {
         if !self.header.in_range() {
             return Check::Refused(Refusal::HeaderRange);
         }
-        if 65536 < width {
-            return Check::Refused(Refusal::WrongSize);
-        }
-        if width <= self.x {
-            return Check::Refused(Refusal::WrongSize);
-        }
-        if 1073741824 <= self.y {
+        if !self.is_place() {
             return Check::Refused(Refusal::WrongSize);
         }
         if !turn {
@@ -135,7 +150,7 @@ impl WeightedState {
     }
 
     // The state that remembers what was found, with the guess and the property.
-    fn answer(self, prediction: Prediction) -> Answer
+    pub fn answer(self, prediction: Prediction) -> Answer
         ensures { λ r. ⌜ r ≡ answered self prediction ⌝ }
     {
         let header = self.header;
@@ -190,29 +205,33 @@ impl WeightedState {
         }
     }
 
-    // The place one pixel on, an ask due.
-    fn moved(self) -> WeightedState
-        requires { ⌜ (self .x < 65536) × (self .y < 2 ^ 30) ⌝ }
-        ensures { λ r. ⌜ r ≡ onward self ⌝ }
+    // The place one pixel on, an ask due, and nothing put; outside of the picture the state stays.
+    pub fn moved(self) -> WeightedState
+        ensures { λ r. ⌜ r ≡ moved self ⌝ }
     {
         let header = self.header;
         let found = self.found;
-        let next = self.x + 1;
-        if next == self.width {
+        let width = self.width;
+        let x = self.x;
+        let y = self.y;
+        if !self.is_place() {
+            return self;
+        }
+        if x + 1 == width {
             WeightedState {
                 header,
-                width: self.width,
+                width,
                 x: 0,
-                y: self.y + 1,
+                y: y + 1,
                 asked: false,
                 found,
             }
         } else {
             WeightedState {
                 header,
-                width: self.width,
-                x: next,
-                y: self.y,
+                width,
+                x: x + 1,
+                y,
                 asked: false,
                 found,
             }

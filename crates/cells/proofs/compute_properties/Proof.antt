@@ -50,8 +50,8 @@ cells-needed-requires c κs = search needs
 in-domain-requires : tie.Need-in-domain-requires
 in-domain-requires c κs = search needs
 
-cast-t14 : tie.Need-cast-t14
-cast-t14 c =
+cast-t13 : tie.Need-cast-t13
+cast-t13 c =
     let s = c .before .before .before .before .args in
     omega (arith, sayable (s .x) (s .y) (needs-cells (c .before .before)) (inside (c .before)))
 
@@ -103,7 +103,7 @@ compute-properties-spec =
     (tie.spec
     cells-needed-requires
     in-domain-requires
-    cast-t14
+    cast-t13
     returns
     fill-all-requires
     same-length

@@ -2,8 +2,10 @@
 use borrow.Author.Needs.{needs}
 use borrow.Author.Tests.{lt-ltb, le-ltb, le-leb, lt-leb, eq-eqb, ne-eqb}
 use mathlib.Core.Bool.{and-false}
+use native.Mathlib.Nat.{mul-le-mul-left}
 use native.Mathlib.Omega.{arith}
 use Prim.Native.Nat.{_≤_}
+use Rattle.colour.proofs.RowWithin.{by-begin}
 use Rattle.colour.proofs.rows.has_row.Statement.{statement}
 use Rattle.colour.proofs.rows.has_row.Tie as tie
 
@@ -22,14 +24,17 @@ returns-3 c = simp (ne-eqb _ _ (c .if3 .taken), and-false)
 returns-4 : tie.Need-returns-4
 returns-4 c = simp (le-ltb _ _ (c .if4 .taken), and-false)
 
-div-result : tie.Need-div-result
-div-result c = search needs
+mul-result : tie.Need-mul-result
+mul-result c =
+    let s = c .before .before .before .before .args in
+    let narrow : s .width ≤ 65536 = c .before .before .if2 .left in
+    omega (arith, c .if4 .left, mul-le-mul-left (s .y) narrow)
 
 returns-5 : tie.Need-returns-5
 returns-5 c =
-    let one : 1 ≤ c .before .before .before .before .args .width = omega (arith, c .before .before .before .if1 .left) in
-    simp (le-leb _ _ one, le-leb _ _ (c .before .before .if2 .left), eq-eqb _ _ (c .before .if3 .left), lt-ltb _ _ (c .if4 .left))
+    let s = c .before .before .before .before .args in
+    let one : 1 ≤ s .width = omega (arith, c .before .before .before .if1 .left) in
+    simp (le-leb _ _ one, le-leb _ _ (c .before .before .if2 .left), eq-eqb _ _ (c .before .if3 .left), lt-ltb _ _ (c .if4 .left), by-begin (s .length) (s .width) (s .y) one (c .before .if3 .left))
 
 pub has-row-spec : {M : Type 1} → statement M
-has-row-spec =
-    tie.close (tie.spec returns returns-2 rem-if3 returns-3 returns-4 div-result returns-5)
+has-row-spec = tie.close (tie.spec returns returns-2 rem-if3 returns-3 returns-4 mul-result returns-5)

@@ -51,8 +51,8 @@ add-needed c = search needs
 mul-needed : tie.Need-mul-needed
 mul-needed c = search needs
 
-cast-t12 : tie.Need-cast-t12
-cast-t12 c = search needs
+cast-t11 : tie.Need-cast-t11
+cast-t11 c = search needs
 
 returns-4 : tie.Need-returns-4
 returns-4 c =
@@ -64,20 +64,18 @@ returns-4 c =
 clear-requires : tie.Need-clear-requires
 clear-requires c κs = search needs
 
+start-requires : tie.Need-start-requires
+start-requires c κs = search needs
+
 same-length : tie.Need-same-length
 same-length c = search needs
 
 returns-5 : tie.Need-returns-5
 returns-5 c =
-    let s = c .before .before .before .before .before .before .before .before .before .before .args in
+    let s = c .before .before .before .before .before .before .before .before .before .before .before .args in
     let is : opens (s .header) (s .width) (s .memory .now) ≡ gives (atStart (s .header) (s .width)) =
-    simp (
-      in-range (c .before .before .before .before .before .before .before),
-      le-leb _ _ (c .before .before .before .before .before .before .if2 .left),
-      le-leb _ _ (c .before .before .before .before .before .if3 .left),
-      le-leb _ _ (c .before .before .before .before .if4 .left),
-    ) in
-    record { answers = sym is; holds = c .before .before .clear .ensures ∙ sym (ap (cleared (s .memory .now)) is) }
+    simp (in-range (c .before .before .before .before .before .before .before .before), le-leb _ _ (c .before .before .before .before .before .before .before .if2 .left), le-leb _ _ (c .before .before .before .before .before .before .if3 .left), le-leb _ _ (c .before .before .before .before .before .if4 .left)) in
+    record { answers = ap gives (c .start .ensures) ∙ sym is; holds = c .before .before .before .clear .ensures ∙ sym (ap (cleared (s .memory .now)) is) }
 
 pub open-spec : {M : Type 1} → statement M
 open-spec =
@@ -89,8 +87,9 @@ open-spec =
     returns-3
     add-needed
     mul-needed
-    cast-t12
+    cast-t11
     returns-4
     clear-requires
+    start-requires
     same-length
     returns-5)

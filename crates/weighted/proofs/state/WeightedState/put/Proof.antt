@@ -61,9 +61,7 @@ update-requires c κs =
     (g .narrow, g .inside, g .room)
 
 moved-requires : tie.Need-moved-requires
-moved-requires c κs =
-    let g = may (c .before .before .before .before .before .before .before .before) in
-    omega arith
+moved-requires c κs = search needs
 
 enum-known-left-2 : tie.Need-enum-known-left-2
 enum-known-left-2 c = search needs
@@ -81,7 +79,7 @@ returns-2 c =
     let s = c .before .before .before .before .before .before .before .before .before .before .before .before .before .before .args in
     let told = c .before .before .before .before .before .before .before .before .before in
     let is = errors-are (s .self .found) (s .value) (was-found told) (sym (ap saidLeft (c .before .before .before .before .before .before .left .given .1)) ∙ left-is (c .before .before .before .before .before .before .before .before)) in
-    put-done (s .self) (s .memory .now) (s .value) (c .moved .result) (passed told) (c .moved .ensures)
+    put-done (s .self) (s .memory .now) (s .value) (c .moved .result) (passed told) (c .moved .ensures ∙ rw (may told .placed))
     (c .before .before .before .update .ensures ∙ ap (updated (s .memory .now) (s .self .width) (s .self .x) (s .self .y)) is)
 
 returns-3 : tie.Need-returns-3

@@ -4,10 +4,10 @@ use lib.ListN.{length}
 use mathlib.Core.Path.{_≡_, sym, ap, _∙_}
 use native.Mathlib.Omega.{arith}
 use Prim.Native.Nat.{_≤_, _<_, _-_}
 use Rattle.integer.proofs.Fill.{filled-none, filled-more, filled-length, filled-all}
 use Rattle.integer.specs.Fill.{filled}
-use Rattle.flatten.proofs.clear.Statement.{statement}
-use Rattle.flatten.proofs.clear.Tie as tie
+use Rattle.integer.proofs.clear.Statement.{statement}
+use Rattle.integer.proofs.clear.Tie as tie
 
 abbrev Inv-loop : tie.InvT-loop
 Inv-loop lent₀ i₀ lent i = (i ≤ length lent₀) × (lent ≡ filled (λ k. pos 0) i lent₀)

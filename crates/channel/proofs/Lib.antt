@@ -1,0 +1,6 @@
+pub mod Accepted
+pub mod Follows
+pub mod Lengths
+pub mod Neighbours
+pub mod Standing
+pub mod Turns

@@ -1,0 +1,501 @@
+// Module 10: a channel, pixel after pixel. A session is a value that keeps its place; ask and put alternate in raster order.
+ghost use mathlib.Core.Path.{_≡_};
+ghost use Prim.Native.Nat.{_≤_, _<_, _-_};
+ghost use lib.IntN.{pos, _+ℤ_, _*ℤ_};
+ghost use lib.ListN.{length};
+ghost use Rattle.cells.specs.Cells.{outcome};
+ghost use Rattle.flat.specs.Records.{counted};
+ghost use Rattle.colour.specs.Rows.{rowOf};
+ghost use Rattle.integer.specs.Word.{wrap};
+ghost use Rattle.predict.specs.Neighbours.{neighbours, said};
+ghost use Rattle.refusal.specs.Paper.{gives};
+ghost use Rattle.session.specs.Session.{
+  Asks,
+  Opens,
+  Puts,
+  Walks,
+  closed,
+  column,
+  isDue,
+  isLent,
+  isPixel,
+  line,
+  mayAsk,
+  mayOpen,
+  mayPut,
+  passed,
+  saidCheck,
+  memoryRefused,
+  someRecords,
+  waiting,
+  width,
+};
+use blend::WeightedHeader;
+use cells::Filled;
+use cells::cells_needed;
+use cells::compute_properties;
+use cells::start_cells;
+use colour::rows::has_row;
+use colour::rows::row;
+use flat::predict_flat;
+use flat::records::count_records;
+use integer::from_bits;
+use integer::low_word;
+use integer::to_bits;
+use integer::wrapping_add;
+use nodes::Counted;
+use predict::neighbours::Neighbourhood;
+use predict::neighbours::PredictionData;
+use predict::neighbours::get_rows;
+use refusal::Refusal;
+use walk::PredictionResult;
+use walk::Walked;
+use weighted::state::Answer;
+use weighted::state::Asked;
+use weighted::state::Opened;
+use weighted::state::Put;
+use weighted::state::WeightedState;
+
+mod weights;
+
+// The weighted state has the place of the next or pending pixel, also with weights off. A session lives until a walk is refused. Guess
+// and multiplier are the pending pixel's.
+pub struct Session {
+    pub weighted: WeightedState,
+    pub weights: bool,
+    pub mask: u32,
+    pub live: bool,
+    pub guess: i64,
+    pub multiplier: u32,
+}
+
+// A session that waits for the residual that was coded in this context.
+pub struct Waiting {
+    pub session: Session,
+    pub context: u32,
+}
+
+// A refusal, and the session as it was, or closed.
+pub struct Kept {
+    pub session: Session,
+    pub refusal: Refusal,
+}
+
+pub enum OpenAnswer {
+    Is(Session),
+    Refused(Refusal),
+}
+
+pub enum AskAnswer {
+    Is(Waiting),
+    Refused(Kept),
+}
+
+pub enum PutAnswer {
+    Done(Session),
+    Refused(Kept),
+}
+
+enum Check {
+    Passed,
+    Refused(Refusal),
+}
+
+// The low 32 bits of guess + residual * multiplier, which may leave 64 bits.
+fn unpack(guess: i64, residual: i32, multiplier: u32) -> i32
+    ensures { λ r. ⌜ r ≡ wrap (guess +ℤ residual *ℤ pos multiplier) ⌝ }
+{
+    let product = to_bits(residual) as u64 * multiplier as u64;
+    wrapping_add(low_word(guess), from_bits((product % 4294967296) as u32))
+}
+
+// Whether the memory lent suffices for this width; with weights off none is needed.
+fn is_lent(weights: bool, width: usize, lent: usize) -> bool
+    requires { ⌜ width ≤ 65536 ⌝ }
+    ensures { λ r. ⌜ r ≡ isLent weights width lent ⌝ }
+{
+    if weights {
+        10 * (width + 2) <= lent
+    } else {
+        true
+    }
+}
+
+// The refusal of memory that does not suffice.
+fn memory_refused(width: usize) -> Check
+    requires { ⌜ width ≤ 65536 ⌝ }
+    ensures { λ r. ⌜ saidCheck r ≡ memoryRefused width ⌝ }
+{
+    Check::Refused(Refusal::TooSmall {
+        needed: (10 * (width + 2)) as u32,
+    })
+}
+
+// Whether a session may open, in the order of the paper: header, width, memory, cells.
+fn check_open(
+    header: WeightedHeader,
+    width: usize,
+    weights: bool,
+    cells: usize,
+    lent: usize,
+) -> Check
+    ensures { λ r. ⌜ saidCheck r ≡ mayOpen header width weights cells lent ⌝ }
+{
+    if !header.in_range() {
+        return Check::Refused(Refusal::HeaderRange);
+    }
+    if width < 1 {
+        return Check::Refused(Refusal::WrongSize);
+    }
+    if 65536 < width {
+        return Check::Refused(Refusal::WrongSize);
+    }
+    if !is_lent(weights, width, lent) {
+        return memory_refused(width);
+    }
+    if cells < 16 {
+        return Check::Refused(Refusal::TooFewCells { needed: 16 });
+    }
+    Check::Passed
+}
+
+// Whether there are records: their count, then that there are some.
+fn check_records(records: &[i32]) -> Check
+    ensures { λ r. ⌜ saidCheck r ≡ someRecords (counted (now (records .entry))) ⌝ }
+{
+    let counted = count_records(records);
+    match counted {
+        Counted::Refused(refusal) => Check::Refused(refusal),
+        Counted::Nodes(count) => {
+            if count == 0 {
+                return Check::Refused(Refusal::EmptyList);
+            }
+            Check::Passed
+        }
+    }
+}
+
+impl Session {
+    // A session before a channel's first pixel: cells 0 and 1 are the two numbers, the others and the memory are cleared.
+    pub fn open(
+        width: usize,
+        header: WeightedHeader,
+        weights: bool,
+        mask: u32,
+        channel: i32,
+        stream: i32,
+        cells: &mut [i32],
+        memory: &mut [u32],
+    ) -> OpenAnswer
+        ensures { λ r. ⌜ Opens width header weights mask «channel» «stream» (now (cells .entry)) (now (memory .entry)) r (now (cells .exit)) (now (memory .exit)) ⌝ }
+    {
+        let checked = check_open(header, width, weights, cells.len(), memory.len());
+        match checked {
+            Check::Refused(refusal) => OpenAnswer::Refused(refusal),
+            Check::Passed => {
+                let started = weights::start(header, width, weights, memory);
+                match started {
+                    Opened::Refused(refusal) => OpenAnswer::Refused(refusal),
+                    Opened::Is(weighted) => {
+                        start_cells(channel, stream, cells);
+                        OpenAnswer::Is(Session {
+                            weighted,
+                            weights,
+                            mask,
+                            live: true,
+                            guess: 0,
+                            multiplier: 0,
+                        })
+                    }
+                }
+            }
+        }
+    }
+
+    // Whether the next or pending pixel lies in a plane of this length.
+    fn is_pixel(self, size: usize) -> bool
+        ensures { λ r. ⌜ r ≡ isPixel self size ⌝ }
+    {
+        let weighted = self.weighted;
+        let width = weighted.width;
+        let x = weighted.x;
+        if has_row(size, width, weighted.y) {
+            x < width
+        } else {
+            false
+        }
+    }
+
+    // Whether the arguments of an ask are sound, in the order of the paper: header, place, turn, records, memory, cells.
+    fn check_ask(
+        self,
+        size: usize,
+        references: &[i32],
+        records: &[i32],
+        cells: usize,
+        lent: usize,
+    ) -> Check
+        ensures { λ r. ⌜ saidCheck r ≡ mayAsk self size (length (now (references .entry))) (now (records .entry)) cells lent ⌝ }
+    {
+        let weighted = self.weighted;
+        let width = weighted.width;
+        let asked = weighted.asked;
+        let live = self.live;
+        let weights = self.weights;
+        let needed = cells_needed(self.mask, references);
+        let inside = self.is_pixel(size);
+        if !weighted.header.in_range() {
+            return Check::Refused(Refusal::HeaderRange);
+        }
+        if !inside {
+            return Check::Refused(Refusal::WrongSize);
+        }
+        if 4294967295 < needed {
+            return Check::Refused(Refusal::WrongSize);
+        }
+        if !live {
+            return Check::Refused(Refusal::OutOfTurn);
+        }
+        if asked {
+            return Check::Refused(Refusal::OutOfTurn);
+        }
+        let some = check_records(records);
+        match some {
+            Check::Refused(refusal) => Check::Refused(refusal),
+            Check::Passed => {
+                if !is_lent(weights, width, lent) {
+                    return memory_refused(width);
+                }
+                if cells < needed {
+                    return Check::Refused(Refusal::TooFewCells {
+                        needed: needed as u32,
+                    });
+                }
+                Check::Passed
+            }
+        }
+    }
+
+    // The neighbours of the pixel at the session's place, from the rows as parts of the plane. Rows above the first are not looked at.
+    fn neighbours(self, plane: &[i32]) -> Neighbourhood
+        ensures { λ r. ⌜ said r ≡ neighbours (rowOf (now (plane .entry)) (width self) (line self)) (rowOf (now (plane .entry)) (width self) (line self - 1)) (rowOf (now (plane .entry)) (width self) (line self - 2)) (column self) (line self) ⌝ }
+    {
+        let weighted = self.weighted;
+        let width = weighted.width;
+        let x = weighted.x;
+        let y = weighted.y;
+        let one_up = if 1 <= y { y - 1 } else { 0 };
+        let two_up = if 2 <= y { y - 2 } else { 0 };
+        get_rows(
+            row(plane, width, y),
+            row(plane, width, one_up),
+            row(plane, width, two_up),
+            x,
+            y,
+        )
+    }
+
+    // The session that waits for the put.
+    fn waiting(self, answer: Answer, result: PredictionResult) -> Session
+        ensures { λ r. ⌜ r ≡ waiting self answer «result» ⌝ }
+    {
+        let weighted = answer.state;
+        Session {
+            weighted,
+            weights: self.weights,
+            mask: self.mask,
+            live: true,
+            guess: result.guess,
+            multiplier: result.multiplier,
+        }
+    }
+
+    fn closed(self) -> Session
+        ensures { λ r. ⌜ r ≡ closed self ⌝ }
+    {
+        let weighted = self.weighted;
+        Session {
+            weighted,
+            weights: self.weights,
+            mask: self.mask,
+            live: false,
+            guess: self.guess,
+            multiplier: self.multiplier,
+        }
+    }
+
+    // The cells of the pixel, and the walk with them.
+    fn walk(
+        self,
+        data: PredictionData,
+        answer: Answer,
+        references: &[i32],
+        records: &[i32],
+        cells: &mut [i32],
+    ) -> AskAnswer
+        requires { ⌜ outcome (self .mask) (column self) (line self) (length (now references)) (length (now cells)) ≡ gives tt ⌝ }
+        ensures { λ r. ⌜ Walks self «data» answer (now (references .entry)) (now (records .entry)) (now (cells .entry)) r (now (cells .exit)) ⌝ }
+    {
+        let weighted = self.weighted;
+        let x = weighted.x;
+        let y = weighted.y;
+        let property = answer.property;
+        let guess = answer.guess;
+        let filled = compute_properties(self.mask, x, y, data, property, references, cells);
+        match filled {
+            Filled::Refused(refusal) => AskAnswer::Refused(Kept {
+                session: self,
+                refusal,
+            }),
+            Filled::Done => {
+                let walked = predict_flat(records, cells, data, guess);
+                match walked {
+                    Walked::Refused(refusal) => AskAnswer::Refused(Kept {
+                        session: self.closed(),
+                        refusal,
+                    }),
+                    Walked::Is(result) => AskAnswer::Is(Waiting {
+                        session: self.waiting(answer, result),
+                        context: result.context,
+                    }),
+                }
+            }
+        }
+    }
+
+    // The context of the pixel at the session's place, whose row is part of the plane. A refusal of the arguments changes nothing; one of
+    // the walk leaves the cells filled and the session closed.
+    pub fn ask(
+        self,
+        plane: &[i32],
+        references: &[i32],
+        records: &[i32],
+        cells: &mut [i32],
+        memory: &[u32],
+    ) -> AskAnswer
+        ensures { λ r. ⌜ Asks self (now (plane .entry)) (now (references .entry)) (now (records .entry)) (now (cells .entry)) (now (memory .entry)) r (now (cells .exit)) ⌝ }
+    {
+        let checked = self.check_ask(plane.len(), references, records, cells.len(), memory.len());
+        match checked {
+            Check::Refused(refusal) => AskAnswer::Refused(Kept {
+                session: self,
+                refusal,
+            }),
+            Check::Passed => {
+                let fetched = self.neighbours(plane);
+                match fetched {
+                    Neighbourhood::Refused(refusal) => AskAnswer::Refused(Kept {
+                        session: self,
+                        refusal,
+                    }),
+                    Neighbourhood::Is(data) => {
+                        let asked = weights::ask(self.weighted, self.weights, memory, data);
+                        match asked {
+                            Asked::Refused(kept) => {
+                                let refusal = kept.refusal;
+                                AskAnswer::Refused(Kept {
+                                    session: self,
+                                    refusal,
+                                })
+                            }
+                            Asked::Is(answer) => {
+                                self.walk(data, answer, references, records, cells)
+                            }
+                        }
+                    }
+                }
+            }
+        }
+    }
+
+    // Whether the session waits for a put. One with what no ask can have found does not.
+    fn is_due(self) -> bool
+        ensures { λ r. ⌜ r ≡ isDue self ⌝ }
+    {
+        let weighted = self.weighted;
+        let asked = weighted.asked;
+        let found = weighted.found;
+        let live = self.live;
+        let weights = self.weights;
+        if !live {
+            return false;
+        }
+        if !asked {
+            return false;
+        }
+        if weights { found.possible() } else { true }
+    }
+
+    // Whether the arguments of a put are sound, in the order of the paper: header, place, turn, memory.
+    fn check_put(self, size: usize, lent: usize) -> Check
+        ensures { λ r. ⌜ saidCheck r ≡ mayPut self size lent ⌝ }
+    {
+        let weighted = self.weighted;
+        let width = weighted.width;
+        let weights = self.weights;
+        let inside = self.is_pixel(size);
+        let due = self.is_due();
+        if !weighted.header.in_range() {
+            return Check::Refused(Refusal::HeaderRange);
+        }
+        if !inside {
+            return Check::Refused(Refusal::WrongSize);
+        }
+        if !due {
+            return Check::Refused(Refusal::OutOfTurn);
+        }
+        if !is_lent(weights, width, lent) {
+            return memory_refused(width);
+        }
+        Check::Passed
+    }
+
+    // The session over a state one pixel on.
+    fn passed(self, weighted: WeightedState) -> Session
+        ensures { λ r. ⌜ r ≡ passed self weighted ⌝ }
+    {
+        Session {
+            weighted,
+            weights: self.weights,
+            mask: self.mask,
+            live: self.live,
+            guess: self.guess,
+            multiplier: self.multiplier,
+        }
+    }
+
+    // The pixel that was asked for becomes guess + residual * multiplier, in its low 32 bits.
+    pub fn put(self, residual: i32, plane: &mut [i32], memory: &mut [u32]) -> PutAnswer
+        ensures { λ r. ⌜ Puts self residual (now (plane .entry)) (now (memory .entry)) r (now (plane .exit)) (now (memory .exit)) ⌝ }
+    {
+        let weighted = self.weighted;
+        let width = weighted.width;
+        let x = weighted.x;
+        let y = weighted.y;
+        let checked = self.check_put(plane.len(), memory.len());
+        match checked {
+            Check::Refused(refusal) => PutAnswer::Refused(Kept {
+                session: self,
+                refusal,
+            }),
+            Check::Passed => {
+                let value = unpack(self.guess, residual, self.multiplier);
+                let learnt = weights::put(weighted, self.weights, memory, value);
+                match learnt {
+                    Put::Refused(kept) => {
+                        let refusal = kept.refusal;
+                        PutAnswer::Refused(Kept {
+                            session: self,
+                            refusal,
+                        })
+                    }
+                    Put::Done(next) => {
+                        let at = y * width + x;
+                        plane[at] = value;
+                        PutAnswer::Done(self.passed(next))
+                    }
+                }
+            }
+        }
+    }
+}
