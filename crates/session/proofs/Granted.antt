@@ -2,7 +2,7 @@
 use borrow.Author.Tests.{leb-true, ltb-true, le-leb, lt-ltb, le-ltb, eq-eqb}
 use lib.Dec.{leb, ltb, eqb}
 use lib.IntN.{ℤ}
-use lib.ListN.{length, drop, length-drop}
+use lib.ListN.{length, take, drop, length-drop}
 use lib.Seq.{length-take-le}
 use mathlib.Core.Bool.{Bool, true, false, _&&_, not}
 use mathlib.Core.List.{List, []}
@@ -71,6 +71,7 @@ then-passed (refuses number details) next e = absurd (let z : _≡_ {A = ℕ} 0 
 
 pub record AskGranted (s : Session) (size references : ℕ) (cells lent : ℕ) : Type 0 where
   pub in-range : inRange (s .weighted .header) ≡ true
+  pub is-pixel : isPixel s size ≡ true
   pub placed : Pixel s size
   pub sayable : cellsNeeded (s .mask) references ≤ 4294967295
   pub turn : not (s .weighted .asked) ≡ true
@@ -89,6 +90,7 @@ ask-granted s size references records cells lent e =
     let room = test-passed (leb need cells) 10 need _ (memory .1) in
     record {
       in-range = header .0;
+      is-pixel = and-left (isPixel s size) (leb need 4294967295) (place .0);
       placed = pixel s size (and-left (isPixel s size) (leb need 4294967295) (place .0));
       sayable = leb-true need 4294967295 (and-right (isPixel s size) (leb need 4294967295) (place .0));
       turn = and-right (s .live) (not (s .weighted .asked)) (its-turn .0);
@@ -123,6 +125,17 @@ row-above size w y k there =
     let early = ltb-true y (2 ^ 30) (and-right a (ltb y (2 ^ 30)) four) in
     let below = ltb-true y (size / w) (and-right (a && ltb y (2 ^ 30)) (ltb y (size / w)) there) in
     both (both (and-left a (ltb y (2 ^ 30)) four) (lt-ltb (y - k) (2 ^ 30) (omega arith))) (lt-ltb (y - k) (size / w) (omega arith))
+
+-- their words, and where they end
+pub own-words : (plane : List ℤ) (w y : ℕ) → isRow (length plane) w y ≡ true → rowOf plane w y ≡ take w (drop (y * w) plane)
+own-words plane w y there = rw there
+
+module _ (plane : List ℤ) (w y k : ℕ) (there : isRow (length plane) w y ≡ true) where
+  pub row-words : rowOf plane w (y - k) ≡ take w (drop ((y - k) * w) plane)
+  row-words = rw (row-above (length plane) w y k there)
+
+  pub row-room : (y - k) * w + w ≤ length plane
+  row-room = within (length plane) w (y - k) (row-above (length plane) w y k there)
 
 has-width : (least y : ℕ) (row : List ℤ) (w : ℕ) → length row ≡ w → hasWidth least y row w ≡ true
 has-width least y row w e = by (leb least y)

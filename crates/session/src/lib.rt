@@ -1,8 +1,9 @@
 // Module 10: a channel, pixel after pixel. A session is a value that keeps its place; ask and put alternate in raster order.
+ghost use mathlib.Core.Bool.{true};
 ghost use mathlib.Core.Path.{_≡_};
-ghost use Prim.Native.Nat.{_≤_, _<_, _-_};
+ghost use Prim.Native.Nat.{_+_, _-_, _≤_};
 ghost use lib.IntN.{pos, _+ℤ_, _*ℤ_};
-ghost use lib.ListN.{length};
+ghost use lib.ListN.{length, take, drop};
 ghost use Rattle.cells.specs.Cells.{outcome};
 ghost use Rattle.flat.specs.Records.{counted};
 ghost use Rattle.colour.specs.Rows.{rowOf};
@@ -36,7 +37,6 @@ use cells::cells_needed;
 use cells::compute_properties;
 use cells::start_cells;
 use colour::rows::has_row;
-use colour::rows::row;
 use flat::predict_flat;
 use flat::records::count_records;
 use integer::from_bits;
@@ -107,6 +107,14 @@ fn unpack(guess: i64, residual: i32, multiplier: u32) -> i32
 {
     let product = to_bits(residual) as u64 * multiplier as u64;
     wrapping_add(low_word(guess), from_bits((product % 4294967296) as u32))
+}
+
+// The row that begins at this word, as that part of the plane.
+fn row_from(plane: &[i32], start: usize, width: usize) -> &[i32]
+    requires { ⌜ start + width ≤ length (now plane) ⌝ }
+    ensures { λ r. ⌜ now r ≡ take width (drop start (now (plane .entry))) ⌝ }
+{
+    &plane[start..start + width]
 }
 
 // Whether the memory lent suffices for this width; with weights off none is needed.
@@ -278,18 +286,20 @@ impl Session {
 
     // The neighbours of the pixel at the session's place, from the rows as parts of the plane. Rows above the first are not looked at.
     fn neighbours(self, plane: &[i32]) -> Neighbourhood
+        requires { ⌜ isPixel self (length (now plane)) ≡ true ⌝ }
         ensures { λ r. ⌜ said r ≡ neighbours (rowOf (now (plane .entry)) (width self) (line self)) (rowOf (now (plane .entry)) (width self) (line self - 1)) (rowOf (now (plane .entry)) (width self) (line self - 2)) (column self) (line self) ⌝ }
     {
         let weighted = self.weighted;
         let width = weighted.width;
         let x = weighted.x;
         let y = weighted.y;
-        let one_up = if 1 <= y { y - 1 } else { 0 };
-        let two_up = if 2 <= y { y - 2 } else { 0 };
+        let start = y * width;
+        let one_up = if 1 <= y { start - width } else { 0 };
+        let two_up = if 2 <= y { one_up - width } else { 0 };
         get_rows(
-            row(plane, width, y),
-            row(plane, width, one_up),
-            row(plane, width, two_up),
+            row_from(plane, start, width),
+            row_from(plane, one_up, width),
+            row_from(plane, two_up, width),
             x,
             y,
         )

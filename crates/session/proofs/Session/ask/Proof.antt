@@ -52,7 +52,7 @@ enum-told : tie.Need-enum-told
 enum-told c = search needs
 
 neighbours-requires : tie.Need-neighbours-requires
-neighbours-requires c κs = search needs
+neighbours-requires c κs = granted c .is-pixel
 
 enum-known-fetched : tie.Need-enum-known-fetched
 enum-known-fetched c = search needs
