@@ -1,4 +1,5 @@
 pub mod Accepted
+pub mod Example
 pub mod Follows
 pub mod Lengths
 pub mod Neighbours

@@ -29,8 +29,8 @@ use Rattle.weighted.specs.declared.state.WeightedState.{WeightedState}
 use Rattle.session.specs.declared.Session.{Session}
 use Rattle.session.specs.declared.Waiting.{Waiting}
 use Rattle.session.specs.declared.Kept.{Kept}
-use Rattle.session.specs.declared.Check.{Check}
-use Rattle.session.specs.declared.Check.the-variants as check
+use Rattle.session.specs.declared.checks.Check.{Check}
+use Rattle.session.specs.declared.checks.Check.the-variants as check
 use Rattle.session.specs.declared.OpenAnswer.{OpenAnswer}
 use Rattle.session.specs.declared.OpenAnswer.the-variants as opened
 use Rattle.session.specs.declared.AskAnswer.{AskAnswer}

@@ -5,7 +5,6 @@ ghost use Prim.Native.Nat.{_+_, _-_, _≤_};
 ghost use lib.IntN.{pos, _+ℤ_, _*ℤ_};
 ghost use lib.ListN.{length, take, drop};
 ghost use Rattle.cells.specs.Cells.{outcome};
-ghost use Rattle.flat.specs.Records.{counted};
 ghost use Rattle.colour.specs.Rows.{rowOf};
 ghost use Rattle.integer.specs.Word.{wrap};
 ghost use Rattle.predict.specs.Neighbours.{neighbours, said};
@@ -17,33 +16,25 @@ ghost use Rattle.session.specs.Session.{
   Walks,
   closed,
   column,
-  isDue,
-  isLent,
   isPixel,
   line,
-  mayAsk,
-  mayOpen,
-  mayPut,
   passed,
-  saidCheck,
-  memoryRefused,
-  someRecords,
   waiting,
   width,
 };
 use blend::WeightedHeader;
 use cells::Filled;
-use cells::cells_needed;
 use cells::compute_properties;
 use cells::start_cells;
-use colour::rows::has_row;
+use checks::Check;
+use checks::check_ask;
+use checks::check_open;
+use checks::check_put;
 use flat::predict_flat;
-use flat::records::count_records;
 use integer::from_bits;
 use integer::low_word;
 use integer::to_bits;
 use integer::wrapping_add;
-use nodes::Counted;
 use predict::neighbours::Neighbourhood;
 use predict::neighbours::PredictionData;
 use predict::neighbours::get_rows;
@@ -56,6 +47,7 @@ use weighted::state::Opened;
 use weighted::state::Put;
 use weighted::state::WeightedState;
 
+mod checks;
 mod weights;
 
 // The weighted state has the place of the next or pending pixel, also with weights off. A session lives until a walk is refused. Guess
@@ -96,11 +88,6 @@ pub enum PutAnswer {
     Refused(Kept),
 }
 
-enum Check {
-    Passed,
-    Refused(Refusal),
-}
-
 // The low 32 bits of guess + residual * multiplier, which may leave 64 bits.
 fn unpack(guess: i64, residual: i32, multiplier: u32) -> i32
     ensures { λ r. ⌜ r ≡ wrap (guess +ℤ residual *ℤ pos multiplier) ⌝ }
@@ -115,72 +102,6 @@ fn row_from(plane: &[i32], start: usize, width: usize) -> &[i32]
     ensures { λ r. ⌜ now r ≡ take width (drop start (now (plane .entry))) ⌝ }
 {
     &plane[start..start + width]
-}
-
-// Whether the memory lent suffices for this width; with weights off none is needed.
-fn is_lent(weights: bool, width: usize, lent: usize) -> bool
-    requires { ⌜ width ≤ 65536 ⌝ }
-    ensures { λ r. ⌜ r ≡ isLent weights width lent ⌝ }
-{
-    if weights {
-        10 * (width + 2) <= lent
-    } else {
-        true
-    }
-}
-
-// The refusal of memory that does not suffice.
-fn memory_refused(width: usize) -> Check
-    requires { ⌜ width ≤ 65536 ⌝ }
-    ensures { λ r. ⌜ saidCheck r ≡ memoryRefused width ⌝ }
-{
-    Check::Refused(Refusal::TooSmall {
-        needed: (10 * (width + 2)) as u32,
-    })
-}
-
-// Whether a session may open, in the order of the paper: header, width, memory, cells.
-fn check_open(
-    header: WeightedHeader,
-    width: usize,
-    weights: bool,
-    cells: usize,
-    lent: usize,
-) -> Check
-    ensures { λ r. ⌜ saidCheck r ≡ mayOpen header width weights cells lent ⌝ }
-{
-    if !header.in_range() {
-        return Check::Refused(Refusal::HeaderRange);
-    }
-    if width < 1 {
-        return Check::Refused(Refusal::WrongSize);
-    }
-    if 65536 < width {
-        return Check::Refused(Refusal::WrongSize);
-    }
-    if !is_lent(weights, width, lent) {
-        return memory_refused(width);
-    }
-    if cells < 16 {
-        return Check::Refused(Refusal::TooFewCells { needed: 16 });
-    }
-    Check::Passed
-}
-
-// Whether there are records: their count, then that there are some.
-fn check_records(records: &[i32]) -> Check
-    ensures { λ r. ⌜ saidCheck r ≡ someRecords (counted (now (records .entry))) ⌝ }
-{
-    let counted = count_records(records);
-    match counted {
-        Counted::Refused(refusal) => Check::Refused(refusal),
-        Counted::Nodes(count) => {
-            if count == 0 {
-                return Check::Refused(Refusal::EmptyList);
-            }
-            Check::Passed
-        }
-    }
 }
 
 impl Session {
@@ -216,70 +137,6 @@ impl Session {
                         })
                     }
                 }
-            }
-        }
-    }
-
-    // Whether the next or pending pixel lies in a plane of this length.
-    fn is_pixel(self, size: usize) -> bool
-        ensures { λ r. ⌜ r ≡ isPixel self size ⌝ }
-    {
-        let weighted = self.weighted;
-        let width = weighted.width;
-        let x = weighted.x;
-        if has_row(size, width, weighted.y) {
-            x < width
-        } else {
-            false
-        }
-    }
-
-    // Whether the arguments of an ask are sound, in the order of the paper: header, place, turn, records, memory, cells.
-    fn check_ask(
-        self,
-        size: usize,
-        references: &[i32],
-        records: &[i32],
-        cells: usize,
-        lent: usize,
-    ) -> Check
-        ensures { λ r. ⌜ saidCheck r ≡ mayAsk self size (length (now (references .entry))) (now (records .entry)) cells lent ⌝ }
-    {
-        let weighted = self.weighted;
-        let width = weighted.width;
-        let asked = weighted.asked;
-        let live = self.live;
-        let weights = self.weights;
-        let needed = cells_needed(self.mask, references);
-        let inside = self.is_pixel(size);
-        if !weighted.header.in_range() {
-            return Check::Refused(Refusal::HeaderRange);
-        }
-        if !inside {
-            return Check::Refused(Refusal::WrongSize);
-        }
-        if 4294967295 < needed {
-            return Check::Refused(Refusal::WrongSize);
-        }
-        if !live {
-            return Check::Refused(Refusal::OutOfTurn);
-        }
-        if asked {
-            return Check::Refused(Refusal::OutOfTurn);
-        }
-        let some = check_records(records);
-        match some {
-            Check::Refused(refusal) => Check::Refused(refusal),
-            Check::Passed => {
-                if !is_lent(weights, width, lent) {
-                    return memory_refused(width);
-                }
-                if cells < needed {
-                    return Check::Refused(Refusal::TooFewCells {
-                        needed: needed as u32,
-                    });
-                }
-                Check::Passed
             }
         }
     }
@@ -385,7 +242,14 @@ impl Session {
     ) -> AskAnswer
         ensures { λ r. ⌜ Asks self (now (plane .entry)) (now (references .entry)) (now (records .entry)) (now (cells .entry)) (now (memory .entry)) r (now (cells .exit)) ⌝ }
     {
-        let checked = self.check_ask(plane.len(), references, records, cells.len(), memory.len());
+        let checked = check_ask(
+            self,
+            plane.len(),
+            references,
+            records,
+            cells.len(),
+            memory.len(),
+        );
         match checked {
             Check::Refused(refusal) => AskAnswer::Refused(Kept {
                 session: self,
@@ -418,48 +282,6 @@ impl Session {
         }
     }
 
-    // Whether the session waits for a put. One with what no ask can have found does not.
-    fn is_due(self) -> bool
-        ensures { λ r. ⌜ r ≡ isDue self ⌝ }
-    {
-        let weighted = self.weighted;
-        let asked = weighted.asked;
-        let found = weighted.found;
-        let live = self.live;
-        let weights = self.weights;
-        if !live {
-            return false;
-        }
-        if !asked {
-            return false;
-        }
-        if weights { found.possible() } else { true }
-    }
-
-    // Whether the arguments of a put are sound, in the order of the paper: header, place, turn, memory.
-    fn check_put(self, size: usize, lent: usize) -> Check
-        ensures { λ r. ⌜ saidCheck r ≡ mayPut self size lent ⌝ }
-    {
-        let weighted = self.weighted;
-        let width = weighted.width;
-        let weights = self.weights;
-        let inside = self.is_pixel(size);
-        let due = self.is_due();
-        if !weighted.header.in_range() {
-            return Check::Refused(Refusal::HeaderRange);
-        }
-        if !inside {
-            return Check::Refused(Refusal::WrongSize);
-        }
-        if !due {
-            return Check::Refused(Refusal::OutOfTurn);
-        }
-        if !is_lent(weights, width, lent) {
-            return memory_refused(width);
-        }
-        Check::Passed
-    }
-
     // The session over a state one pixel on.
     fn passed(self, weighted: WeightedState) -> Session
         ensures { λ r. ⌜ r ≡ passed self weighted ⌝ }
@@ -482,7 +304,7 @@ impl Session {
         let width = weighted.width;
         let x = weighted.x;
         let y = weighted.y;
-        let checked = self.check_put(plane.len(), memory.len());
+        let checked = check_put(self, plane.len(), memory.len());
         match checked {
             Check::Refused(refusal) => PutAnswer::Refused(Kept {
                 session: self,

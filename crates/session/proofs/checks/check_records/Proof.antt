@@ -5,8 +5,8 @@ use mathlib.Core.Path.{_≡_, sym, ap, _∙_}
 use Rattle.flat.specs.Records.{counted}
 use Rattle.nodes.specs.Nodes.{saidCount}
 use Rattle.refusal.specs.Paper.{gives}
-use Rattle.session.proofs.check_records.Statement.{statement}
-use Rattle.session.proofs.check_records.Tie as tie
+use Rattle.session.proofs.checks.check_records.Statement.{statement}
+use Rattle.session.proofs.checks.check_records.Tie as tie
 
 is-counted : (c : tie.After-count-records) → counted (c .before .args .records .now) ≡ saidCount (c .count-records .result)
 is-counted c = sym (c .count-records .ensures)

@@ -1,8 +1,8 @@
 -- `is_pixel` meets its contract: the row decides, then the column.
 use borrow.Author.Needs.{needs}
 use mathlib.Core.Path.{_≡_, sym, _∙_}
-use Rattle.session.proofs.Session.is_pixel.Statement.{statement}
-use Rattle.session.proofs.Session.is_pixel.Tie as tie
+use Rattle.session.proofs.checks.is_pixel.Statement.{statement}
+use Rattle.session.proofs.checks.is_pixel.Tie as tie
 
 has-row-requires : tie.Need-has-row-requires
 has-row-requires c κs = search needs

@@ -2,15 +2,15 @@
 use borrow.Author.Needs.{needs}
 use mathlib.Core.Path.{_≡_, sym, _∙_}
 use Rattle.integer.proofs.Tests.{was-false, was-true}
-use Rattle.session.proofs.Session.is_due.Statement.{statement}
-use Rattle.session.proofs.Session.is_due.Tie as tie
+use Rattle.session.proofs.checks.is_due.Statement.{statement}
+use Rattle.session.proofs.checks.is_due.Tie as tie
 
 returns : tie.Need-returns
-returns c = simp (was-false (c .before .before .before .args .self .live) (c .if1 .taken))
+returns c = simp (was-false (c .before .before .before .args .session .live) (c .if1 .taken))
 
 returns-2 : tie.Need-returns-2
 returns-2 c =
-    let s = c .before .before .before .before .args .self in
+    let s = c .before .before .before .before .args .session in
     simp (was-true (s .live) (c .before .if1 .left), was-false (s .weighted .asked) (c .if2 .taken))
 
 possible-requires : tie.Need-possible-requires
@@ -18,12 +18,12 @@ possible-requires c κs = search needs
 
 returns-3 : tie.Need-returns-3
 returns-3 c =
-    let s = c .before .before .before .before .before .before .args .self in
+    let s = c .before .before .before .before .before .before .args .session in
     simp (was-true (s .live) (c .before .before .before .if1 .left), was-true (s .weighted .asked) (c .before .before .if2 .left), c .before .if3 .taken, c .possible .ensures)
 
 returns-4 : tie.Need-returns-4
 returns-4 c =
-    let s = c .before .before .before .before .before .args .self in
+    let s = c .before .before .before .before .before .args .session in
     simp (was-true (s .live) (c .before .before .if1 .left), was-true (s .weighted .asked) (c .before .if2 .left), c .if3 .left)
 
 pub is-due-spec : {M : Type 1} → statement M

@@ -1,7 +1,7 @@
 -- `is_lent` meets its contract: with weights on the memory decides.
 use borrow.Author.Needs.{needs}
-use Rattle.session.proofs.is_lent.Statement.{statement}
-use Rattle.session.proofs.is_lent.Tie as tie
+use Rattle.session.proofs.checks.is_lent.Statement.{statement}
+use Rattle.session.proofs.checks.is_lent.Tie as tie
 
 add-result : tie.Need-add-result
 add-result c = search needs

@@ -14,37 +14,37 @@ use Rattle.integer.proofs.Tests.{both, was-false, was-true}
 use Rattle.refusal.specs.Paper.{gives}
 use Rattle.session.specs.Session.{isPixel, someRecords, hasRoom, mayAsk, saidCheck}
 use Rattle.session.proofs.Granted.{Pixel, pixel, past-turn}
-use Rattle.session.proofs.Session.check_ask.Statement.{statement}
-use Rattle.session.proofs.Session.check_ask.Tie as tie
+use Rattle.session.proofs.checks.check_ask.Statement.{statement}
+use Rattle.session.proofs.checks.check_ask.Tie as tie
 
-in-range : (c : tie.Else1) → inRange (c .before .before .before .before .before .args .self .weighted .header) ≡ true
+in-range : (c : tie.Else1) → inRange (c .before .before .before .before .before .args .session .weighted .header) ≡ true
 in-range c = sym (c .before .in-range .ensures) ∙ was-true _ (c .if1 .left)
 
-is-pixel : (c : tie.Else2) → isPixel (c .before .before .before .before .before .before .args .self) (c .before .before .before .before .before .before .args .size) ≡ true
+is-pixel : (c : tie.Else2) → isPixel (c .before .before .before .before .before .before .args .session) (c .before .before .before .before .before .before .args .size) ≡ true
 is-pixel c = sym (c .before .before .before .is-pixel .ensures) ∙ was-true _ (c .if2 .left)
 
-inside : (c : tie.Else2) → Pixel (c .before .before .before .before .before .before .args .self) (c .before .before .before .before .before .before .args .size)
-inside c = pixel (c .before .before .before .before .before .before .args .self) (c .before .before .before .before .before .before .args .size) (is-pixel c)
+inside : (c : tie.Else2) → Pixel (c .before .before .before .before .before .before .args .session) (c .before .before .before .before .before .before .args .size)
+inside c = pixel (c .before .before .before .before .before .before .args .session) (c .before .before .before .before .before .before .args .size) (is-pixel c)
 
-is-needed : (c : tie.After-cells-needed) → cellsNeeded (c .before .before .args .self .mask) (length (c .before .before .args .references .now)) ≡ c .cells-needed .result
+is-needed : (c : tie.After-cells-needed) → cellsNeeded (c .before .before .args .session .mask) (length (c .before .before .args .references .now)) ≡ c .cells-needed .result
 is-needed c = sym (c .cells-needed .ensures)
 
 -- the records are counted, and there are some
 records : (c : tie.After-enum-told) → someRecords (counted (c .before .before .before .before .before .before .before .before .before .before .before .before .args .records .now)) ≡ gives tt
 records c = sym (c .before .before .check-records .ensures) ∙ ap saidCheck (c .enum-told .given .1)
 
-is-live : (c : tie.Else4) → c .before .before .before .before .before .before .before .before .args .self .live ≡ true
-is-live c = was-true (c .before .before .before .before .before .before .before .before .args .self .live) (c .if4 .left)
+is-live : (c : tie.Else4) → c .before .before .before .before .before .before .before .before .args .session .live ≡ true
+is-live c = was-true (c .before .before .before .before .before .before .before .before .args .session .live) (c .if4 .left)
 
 -- past the tests before the room
 turned : (c : tie.After-enum-told) → let s = c .before .before .before .before .before .before .before .before .before .before .before .before .args in
-    mayAsk (s .self) (s .size) (length (s .references .now)) (s .records .now) (s .cells) (s .lent)
-    ≡ hasRoom (s .self) (length (s .references .now)) (s .cells) (s .lent)
+    mayAsk (s .session) (s .size) (length (s .references .now)) (s .records .now) (s .cells) (s .lent)
+    ≡ hasRoom (s .session) (length (s .references .now)) (s .cells) (s .lent)
 turned c =
     let s = c .before .before .before .before .before .before .before .before .before .before .before .before .args in
     let sayable = ap (λ (n : ℕ). leb n 4294967295) (is-needed (c .before .before .before .before .before .before .before .before .before .before)) ∙ le-leb _ _ (c .before .before .before .before .before .if3 .left) in
     past-turn (in-range (c .before .before .before .before .before .before .before)) (both (is-pixel (c .before .before .before .before .before .before)) sayable) (both (is-live (c .before .before .before .before)) (ap not (c .before .before .before .if5 .left))) (records c)
-    (hasRoom (s .self) (length (s .references .now)) (s .cells) (s .lent))
+    (hasRoom (s .session) (length (s .references .now)) (s .cells) (s .lent))
 
 cells-needed-requires : tie.Need-cells-needed-requires
 cells-needed-requires c κs = search needs
@@ -65,7 +65,7 @@ returns-3 : tie.Need-returns-3
 returns-3 c = simp (is-needed (c .before .before .before .before .before), in-range (c .before .before), lt-leb _ _ (c .if3 .taken), and-false)
 
 returns-4 : tie.Need-returns-4
-returns-4 c = simp (is-needed (c .before .before .before .before .before .before), in-range (c .before .before .before), is-pixel (c .before .before), le-leb _ _ (c .before .if3 .left), was-false (c .before .before .before .before .before .before .before .before .args .self .live) (c .if4 .taken))
+returns-4 c = simp (is-needed (c .before .before .before .before .before .before), in-range (c .before .before .before), is-pixel (c .before .before), le-leb _ _ (c .before .if3 .left), was-false (c .before .before .before .before .before .before .before .before .args .session .live) (c .if4 .taken))
 
 returns-5 : tie.Need-returns-5
 returns-5 c = simp (is-needed (c .before .before .before .before .before .before .before), in-range (c .before .before .before .before), is-pixel (c .before .before .before), le-leb _ _ (c .before .before .if3 .left), is-live (c .before), c .if5 .taken)

@@ -7,20 +7,20 @@ use Rattle.blend.specs.Blend.{inRange}
 use Rattle.integer.proofs.Tests.{was-false, was-true}
 use Rattle.session.specs.Session.{isPixel, isDue}
 use Rattle.session.proofs.Granted.{Pixel, pixel}
-use Rattle.session.proofs.Session.check_put.Statement.{statement}
-use Rattle.session.proofs.Session.check_put.Tie as tie
+use Rattle.session.proofs.checks.check_put.Statement.{statement}
+use Rattle.session.proofs.checks.check_put.Tie as tie
 
-in-range : (c : tie.Else1) → inRange (c .before .before .before .before .before .args .self .weighted .header) ≡ true
+in-range : (c : tie.Else1) → inRange (c .before .before .before .before .before .args .session .weighted .header) ≡ true
 in-range c = sym (c .before .in-range .ensures) ∙ was-true _ (c .if1 .left)
 
-is-pixel : (c : tie.Else2) → isPixel (c .before .before .before .before .before .before .args .self) (c .before .before .before .before .before .before .args .size) ≡ true
+is-pixel : (c : tie.Else2) → isPixel (c .before .before .before .before .before .before .args .session) (c .before .before .before .before .before .before .args .size) ≡ true
 is-pixel c = sym (c .before .before .before .before .is-pixel .ensures) ∙ was-true _ (c .if2 .left)
 
-is-due : (c : tie.Else3) → isDue (c .before .before .before .before .before .before .before .args .self) ≡ true
+is-due : (c : tie.Else3) → isDue (c .before .before .before .before .before .before .before .args .session) ≡ true
 is-due c = sym (c .before .before .before .before .is-due .ensures) ∙ was-true _ (c .if3 .left)
 
-inside : (c : tie.Else2) → Pixel (c .before .before .before .before .before .before .args .self) (c .before .before .before .before .before .before .args .size)
-inside c = pixel (c .before .before .before .before .before .before .args .self) (c .before .before .before .before .before .before .args .size) (is-pixel c)
+inside : (c : tie.Else2) → Pixel (c .before .before .before .before .before .before .args .session) (c .before .before .before .before .before .before .args .size)
+inside c = pixel (c .before .before .before .before .before .before .args .session) (c .before .before .before .before .before .before .args .size) (is-pixel c)
 
 is-pixel-requires : tie.Need-is-pixel-requires
 is-pixel-requires c κs = search needs

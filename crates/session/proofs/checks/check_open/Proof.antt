@@ -7,8 +7,8 @@ use Rattle.blend.specs.Blend.{inRange}
 use Rattle.integer.proofs.Tests.{both, was-false, was-true}
 use Rattle.weighted.specs.State.{isWidth}
 use Rattle.session.specs.Session.{isLent}
-use Rattle.session.proofs.check_open.Statement.{statement}
-use Rattle.session.proofs.check_open.Tie as tie
+use Rattle.session.proofs.checks.check_open.Statement.{statement}
+use Rattle.session.proofs.checks.check_open.Tie as tie
 
 in-range : (c : tie.Else1) → inRange (c .before .before .args .header) ≡ true
 in-range c = sym (c .before .in-range .ensures) ∙ was-true _ (c .if1 .left)
