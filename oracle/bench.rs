@@ -2,6 +2,7 @@
 
 mod colour;
 mod flat;
+mod session;
 mod tree;
 mod weighted;
 
@@ -22,6 +23,7 @@ pub fn all() {
     weighted::all();
     tree::all();
     flat::all();
+    session::all();
 }
 
 fn seconds(work: impl FnOnce()) -> f64 {

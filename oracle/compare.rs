@@ -7,6 +7,7 @@ mod colour;
 pub mod flat;
 mod neighbours;
 pub mod predictors;
+mod session;
 pub mod tree;
 mod weighted;
 
@@ -24,6 +25,7 @@ pub fn all() {
     cells::all();
     tree::all();
     flat::all();
+    session::all();
 }
 
 /// Counts the cases of one comparison and says so at its end.

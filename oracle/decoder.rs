@@ -220,6 +220,8 @@ pub mod frame {
 
             // The rest is the oracle's own. What only this module sees:
 
+            use crate::headers::modular::WeightedHeader;
+
             #[inline(always)]
             pub fn private_validate_tree(tree: &[TreeNode], num_properties: usize) -> Result<()> {
                 validate_tree(tree, num_properties)
@@ -307,6 +309,77 @@ pub mod frame {
                 }
             }
 
+            /// A channel in a plain loop over the functions above: what the session is held to.
+            pub struct Channel {
+                pub width: usize,
+                pub mask: u32,
+                /// None with weights off.
+                pub weights: Option<WeightedPredictorState>,
+                pub cells: Vec<i32>,
+            }
+
+            /// A pixel before its value is known: what is predicted, and what the prediction left.
+            pub struct Asked<'a> {
+                pub x: usize,
+                pub result: PredictionResult,
+                pub cells: &'a [i32],
+                pub weights: Option<&'a WeightedPredictorState>,
+            }
+
+            impl Asked<'_> {
+                /// The low 32 bits of guess + residual * multiplier.
+                #[inline(always)]
+                pub fn unpacked(&self, residual: i32) -> i32 {
+                    let PredictionResult { guess, multiplier, .. } = self.result;
+                    (guess as i32).wrapping_add(residual.wrapping_mul(multiplier as i32))
+                }
+            }
+
+            impl Channel {
+                /// With cells before the first pixel: channel and stream, then 0.
+                pub fn new(
+                    header: Option<&WeightedHeader>,
+                    width: usize,
+                    mask: u32,
+                    cells: usize,
+                    numbers: [i32; 2],
+                ) -> Self {
+                    let weights = header.map(|header| WeightedPredictorState::new(header, width).unwrap());
+                    let mut cells = vec![0; cells];
+                    cells[..2].copy_from_slice(&numbers);
+                    Channel { width, mask, weights, cells }
+                }
+
+                /// Row y of a plane of packed rows, from what `value` gives for each pixel. The reference row of column x
+                /// is row x of `references`.
+                #[inline(always)]
+                pub fn row(
+                    &mut self,
+                    tree: &FlatTree,
+                    references: &Image<i32>,
+                    plane: &mut [i32],
+                    y: usize,
+                    mut value: impl FnMut(Asked) -> i32,
+                ) {
+                    let Channel { width, mask, weights, cells } = self;
+                    let (width, mask) = (*width, *mask);
+                    let (above, row) = plane.split_at_mut(y * width);
+                    let row = &mut row[..width];
+                    let back = |n: usize| if y < n { &[][..] } else { &above[(y - n) * width..][..width] };
+                    let (top, toptop) = (back(1), back(2));
+                    for x in 0..width {
+                        let data = PredictionData::get_rows(row, top, toptop, x, y);
+                        let state = weights.as_mut();
+                        let result =
+                            predict_flat(&tree.0, data, width, state, x, y, references, cells, mask);
+                        row[x] = value(Asked { x, result, cells, weights: weights.as_ref() });
+                        if let Some(state) = weights {
+                            state.update_errors(row[x], (x, y), width);
+                        }
+                    }
+                }
+            }
+
             impl TreeNode {
                 /// Of five words in document 01's form.
                 pub fn of(&[first, second, third, fourth, fifth]: &[i32; 5]) -> Self {
@@ -386,7 +459,11 @@ pub mod predict {
     // What only this module sees of the state, in the library's order.
     impl WeightedPredictorState {
         /// Equal ones on this memory, so that one can be asked beforehand.
-        pub fn alike<const N: usize>(header: &WeightedHeader, width: usize, memory: &[[u32; 5]]) -> [Self; N] {
+        pub fn alike<const N: usize>(
+            header: &WeightedHeader,
+            width: usize,
+            memory: &[[u32; 5]],
+        ) -> [Self; N] {
             [(); N].map(|_| {
                 let mut state = Self::new(header, width).unwrap();
                 state.fill(memory);
@@ -399,6 +476,12 @@ pub mod predict {
         pub fn found(&self) -> [i64; 5] {
             let [p0, p1, p2, p3] = self.prediction;
             [p0, p1, p2, p3, self.pred]
+        }
+
+        /// As if an ask had found these.
+        pub fn find(&mut self, [p0, p1, p2, p3, pred]: [i64; 5]) {
+            self.prediction = [p0, p1, p2, p3];
+            self.pred = pred;
         }
 
         /// The five words of a position: its error, its four sums.

@@ -113,6 +113,33 @@ unsafe extern "C" {
         words: *const i32, words_len: usize, cells: *const i32, cells_len: usize,
         data: *const i32, data_len: usize, wp_pred: i64, guesses: *mut i64, guesses_len: usize,
     ) -> u32;
+    fn matuviso_session_open(
+        width: usize, header: *const u32, header_len: usize, weights: bool, mask: u32,
+        channel: i32, stream: i32, place: *mut u64, place_len: usize,
+        found: *mut i64, found_len: usize, settings: *mut u32, settings_len: usize,
+        cells: *mut i32, cells_len: usize, memory: *mut u32, memory_len: usize,
+        told: *mut i64, told_len: usize,
+    ) -> u32;
+    fn matuviso_session_ask(
+        header: *const u32, header_len: usize, place: *mut u64, place_len: usize,
+        found: *mut i64, found_len: usize, settings: *mut u32, settings_len: usize,
+        plane: *const i32, plane_len: usize, references: *const i32, references_len: usize,
+        records: *const i32, records_len: usize, cells: *mut i32, cells_len: usize,
+        memory: *const u32, memory_len: usize, told: *mut i64, told_len: usize,
+    ) -> u32;
+    fn matuviso_session_put(
+        header: *const u32, header_len: usize, place: *mut u64, place_len: usize,
+        found: *mut i64, found_len: usize, settings: *mut u32, settings_len: usize, residual: i32,
+        plane: *mut i32, plane_len: usize, memory: *mut u32, memory_len: usize,
+        told: *mut i64, told_len: usize,
+    ) -> u32;
+    fn matuviso_run_channel(
+        width: usize, header: *const u32, header_len: usize, weights: bool, mask: u32,
+        channel: i32, stream: i32, references: *const i32, references_len: usize,
+        records: *const i32, records_len: usize, residuals: *const i32, residuals_len: usize,
+        plane: *mut i32, plane_len: usize, contexts: *mut u32, contexts_len: usize,
+        cells: *mut i32, cells_len: usize, memory: *mut u32, memory_len: usize,
+    ) -> u32;
 }
 
 // In each call below a pointer and its length come from one slice, which lives through the call.
@@ -362,6 +389,103 @@ pub fn walk_flat_pixels(
         matuviso_walk_flat_pixels(
             words.as_ptr(), words.len(), cells.as_ptr(), cells.len(),
             data.as_ptr(), data.len(), wp_pred, guesses.as_mut_ptr(), guesses.len(),
+        )
+    }
+}
+
+/// What a channel is opened with.
+#[derive(Clone, Copy, Debug)]
+pub struct Opening<'a> {
+    pub width: usize,
+    pub header: &'a [u32],
+    pub weights: bool,
+    pub mask: u32,
+    /// Channel and stream.
+    pub numbers: [i32; 2],
+}
+
+/// A session, told as lists: its header; width, x, y, and whether an ask waits; what was found and the guess; whether
+/// weights are on, the mask, whether it lives, the multiplier.
+#[derive(Clone, Debug, PartialEq)]
+pub struct Session {
+    pub header: Vec<u32>,
+    pub place: Vec<u64>,
+    pub found: Vec<i64>,
+    pub settings: Vec<u32>,
+}
+
+// Of an ask the context is told.
+
+#[inline(always)]
+pub fn session_open(
+    opening: Opening, session: &mut Session, cells: &mut [i32], memory: &mut [u32],
+    told: &mut [i64],
+) -> u32 {
+    let Opening { width, header, weights, mask, numbers: [channel, stream] } = opening;
+    let Session { place, found, settings, .. } = session;
+    unsafe {
+        matuviso_session_open(
+            width, header.as_ptr(), header.len(), weights, mask, channel, stream,
+            place.as_mut_ptr(), place.len(), found.as_mut_ptr(), found.len(),
+            settings.as_mut_ptr(), settings.len(), cells.as_mut_ptr(), cells.len(),
+            memory.as_mut_ptr(), memory.len(), told.as_mut_ptr(), told.len(),
+        )
+    }
+}
+
+#[inline(always)]
+pub fn session_ask(
+    session: &mut Session, plane: &[i32], references: &[i32], records: &[i32], cells: &mut [i32],
+    memory: &[u32], told: &mut [i64],
+) -> u32 {
+    let Session { header, place, found, settings } = session;
+    unsafe {
+        matuviso_session_ask(
+            header.as_ptr(), header.len(), place.as_mut_ptr(), place.len(),
+            found.as_mut_ptr(), found.len(), settings.as_mut_ptr(), settings.len(),
+            plane.as_ptr(), plane.len(), references.as_ptr(), references.len(),
+            records.as_ptr(), records.len(), cells.as_mut_ptr(), cells.len(),
+            memory.as_ptr(), memory.len(), told.as_mut_ptr(), told.len(),
+        )
+    }
+}
+
+#[inline(always)]
+pub fn session_put(
+    session: &mut Session, residual: i32, plane: &mut [i32], memory: &mut [u32], told: &mut [i64],
+) -> u32 {
+    let Session { header, place, found, settings } = session;
+    unsafe {
+        matuviso_session_put(
+            header.as_ptr(), header.len(), place.as_mut_ptr(), place.len(),
+            found.as_mut_ptr(), found.len(), settings.as_mut_ptr(), settings.len(), residual,
+            plane.as_mut_ptr(), plane.len(), memory.as_mut_ptr(), memory.len(),
+            told.as_mut_ptr(), told.len(),
+        )
+    }
+}
+
+/// What a channel writes.
+pub struct Written<'a> {
+    pub plane: &'a mut [i32],
+    pub contexts: &'a mut [u32],
+    pub cells: &'a mut [i32],
+    pub memory: &'a mut [u32],
+}
+
+#[inline(always)]
+pub fn run_channel(
+    opening: Opening, references: &[i32], records: &[i32], residuals: &[i32], written: Written,
+) -> u32 {
+    let Opening { width, header, weights, mask, numbers: [channel, stream] } = opening;
+    let Written { plane, contexts, cells, memory } = written;
+    unsafe {
+        matuviso_run_channel(
+            width, header.as_ptr(), header.len(), weights, mask, channel, stream,
+            references.as_ptr(), references.len(), records.as_ptr(), records.len(),
+            residuals.as_ptr(), residuals.len(), plane.as_mut_ptr(), plane.len(),
+            contexts.as_mut_ptr(), contexts.len(), cells.as_mut_ptr(), cells.len(),
+            memory.as_mut_ptr(), memory.len(),
         )
     }
 }

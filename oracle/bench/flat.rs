@@ -10,6 +10,7 @@ use decoder::image::Image;
 use decoder::predict::PredictionData;
 use std::collections::VecDeque;
 use std::hint::black_box;
+use std::ops::Range;
 
 const NODES: usize = 1_048_575;
 const PIXELS: usize = 64 * SIDE;
@@ -78,12 +79,17 @@ fn strip() -> (Vec<i32>, Vec<i32>) {
 
 /// A tree of so many splits as an encoder grows it: each halves the pixels that reach it, by one of its cells, and each
 /// leaf is reached by some.
-fn fitted(random: &mut Random, splits: usize, cells: &[[i32; 16]]) -> Vec<i32> {
+pub fn fitted(
+    random: &mut Random,
+    splits: usize,
+    properties: Range<usize>,
+    cells: &[[i32; 16]],
+) -> Vec<i32> {
     let mut words = Vec::new();
     let mut open = VecDeque::from([(0..cells.len()).collect::<Vec<_>>()]);
     let (mut made, mut leaves) = (0, 0);
     while let Some(mut pixels) = open.pop_front() {
-        let property = 2 + random.below(13);
+        let property = properties.start + random.below(properties.len());
         pixels.sort_by_key(|&k| -cells[k][property] as i64);
         let half = pixels.len() / 2;
         let value = pixels.get(half).map_or(0, |&k| cells[k][property]);
@@ -125,7 +131,7 @@ fn walks() {
     let (data, cells) = strip();
     let random = &mut Random::new(46);
     for nodes in [1, 15, 325, 4_099] {
-        let words = fitted(random, nodes / 2, cells.as_chunks().0);
+        let words = fitted(random, nodes / 2, 2..15, cells.as_chunks().0);
         let tree = nodes_of(&words);
         let flat = FlatTree::of(&tree).unwrap();
         let records = flat.words();

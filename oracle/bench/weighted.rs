@@ -10,7 +10,7 @@ use std::hint::black_box;
 const PIXELS: usize = SIDE * SIDE;
 
 /// The gel in rows of `width`: narrower, its strips one below the other; wider, its bands side by side.
-fn laid_out(gel: &[i32], width: usize) -> Image<i32> {
+pub fn laid_out(gel: &[i32], width: usize) -> Image<i32> {
     let rows = PIXELS / width;
     let from = |x: usize, y: usize| {
         (y % SIDE + x / SIDE * rows) * SIDE + x % SIDE + y / SIDE * width // one of the quotients is 0

@@ -25,7 +25,7 @@ pub fn all() {
 }
 
 /// No bit, one, those of a group, all, any.
-fn some_mask(random: &mut Random) -> u32 {
+pub fn some_mask(random: &mut Random) -> u32 {
     let group = random.one_of(&[0b11, 0b1100, 0xf0, 0x300, 0x7c00, 0x8000, 0xffff_0000]);
     let (any, one) = (random.next() as u32, 1 << random.below(32));
     random.one_of(&[0, one, one, group, any & group, !group, any, u32::MAX, 0x7fff, 0xffff])
@@ -38,7 +38,7 @@ fn told(pixel: Pixel, cells: &mut [i32]) -> (u32, [i64; LENT]) {
 }
 
 /// Rows of references for columns up to `x`, the last of which the Rust reads.
-fn references(row: &[i32], x: usize) -> Image<i32> {
+pub fn references(row: &[i32], x: usize) -> Image<i32> {
     let mut words = vec![UNTOLD as i32; row.len() * x];
     words.extend(row);
     Image::of((row.len(), x + 1), words)

@@ -1,6 +1,6 @@
 //! Modules 7 and 8: flattening, the direct walk and the flat walk.
 
-mod owed;
+pub mod owed;
 
 use super::Tally;
 use super::tree::owed::{DONE, MOST_NODES, Told, UNTOLD, told};
@@ -372,7 +372,7 @@ fn damaged() {
 }
 
 /// One thing amiss in a list of records: a word, a record more or fewer, two exchanged, or the list cut.
-fn damage_record(random: &mut Random, records: &mut Vec<i32>) {
+pub fn damage_record(random: &mut Random, records: &mut Vec<i32>) {
     let n = records.len() / 6;
     let any = random.word();
     if n == 0 {

@@ -1,7 +1,7 @@
 //! Module 4: the weighted state over whole planes, on any memory, saved, restored and refused.
 
 mod both;
-mod refused;
+pub mod refused;
 
 use super::Tally;
 use super::neighbours::{ROWS_END, WIDEST};
@@ -31,12 +31,12 @@ pub fn all() {
     refused::all();
 }
 
-fn needed(width: usize) -> usize {
+pub fn needed(width: usize) -> usize {
     10 * (width + 2)
 }
 
 /// Defaults, any in range, all 0, all at their most, one at its most, one at 0.
-fn some_header(random: &mut Random, kind: usize) -> [u32; 11] {
+pub fn some_header(random: &mut Random, kind: usize) -> [u32; 11] {
     let one = random.below(11);
     std::array::from_fn(|k| match kind {
         0 => DEFAULTS[k],
@@ -50,7 +50,7 @@ fn some_header(random: &mut Random, kind: usize) -> [u32; 11] {
 
 /// Noise around 0, a gentle ramp with noise, a steep one that wraps, any words, words rich in
 /// the ends of the range, the two ends alone.
-fn some_plane(random: &mut Random, filling: usize, width: usize, rows: usize) -> Vec<i32> {
+pub fn some_plane(random: &mut Random, filling: usize, width: usize, rows: usize) -> Vec<i32> {
     let ground = random.word();
     let [across, down] = [(); 2].map(|_| match filling {
         1 => random.below(65) as i32 - 32,

@@ -15,14 +15,24 @@ use Rattle.predict.specs.Predictors.{numbered}
 use Rattle.predict.specs.declared.predictors.Numbered.{Numbered}
 use Rattle.predict.specs.declared.predictors.Numbered.the-variants as numbering
 use Rattle.refusal.specs.Paper.{Outcome, gives, refuses, paper, readBack, reads-back, one-answer}
+use Rattle.flat.specs.declared.form.LeafRead.{LeafRead}
+use Rattle.flat.specs.declared.form.LeafRead.the-variants as leafRead
+use Rattle.flat.specs.declared.form.SplitRead.{SplitRead}
+use Rattle.flat.specs.declared.form.SplitRead.the-variants as splitRead
+use Rattle.flat.specs.declared.records.FlatLeaf.{FlatLeaf}
 use Rattle.flat.specs.declared.records.FlatSplit.{FlatSplit}
 use Rattle.flat.specs.declared.records.Record.{Record}
 use Rattle.flat.specs.declared.records.Record.the-variants as record'
 use Rattle.flat.specs.declared.records.RecordRead.{RecordRead}
 use Rattle.flat.specs.declared.records.RecordRead.the-variants as read
 
-abbrev pub notInForm : ℕ → Outcome Record
+abbrev pub notInForm : {A : Type 0} → ℕ → Outcome A
 notInForm place = refuses 3 (pos place ∷ [])
+
+-- a leaf or a split, once in form, is a record
+abbrev pub asRecord : {A : Type 0} → (A → Record) → Outcome A → Outcome Record
+asRecord wrap (gives it) = gives (wrap it)
+asRecord wrap (refuses number details) = refuses number details
 
 -- the halves of a word's pattern
 abbrev pub lowHalf : ℤ → ℕ
@@ -37,16 +47,19 @@ signedHalf half = if (ltb half 32768) (pos half) (pos half -ℤ pos 65536)
 
 -- ---- a leaf
 
-abbrev pub leafBy : Numbered → List ℤ → ℕ → Outcome Record
+abbrev pub leafBy : Numbered → List ℤ → ℕ → Outcome FlatLeaf
 leafBy (numbering.Is p) words place =
-    gives (record'.Leaf (record { predictor = p; multiplier = bitsOf (word words 2); context = bitsOf (word words 4); offset = signedHalf (lowHalf (word words 5)) }))
+    gives (record { predictor = p; multiplier = bitsOf (word words 2); context = bitsOf (word words 4); offset = signedHalf (lowHalf (word words 5)) })
 leafBy numbering.NoSuch words place = notInForm place
 
 abbrev pub isLeaf : List ℤ → Bool
 isLeaf words = eqb (bitsOf (word words 3)) 0 && eqb (highHalf (word words 5)) 0
 
+abbrev pub flatLeaf : List ℤ → ℕ → Outcome FlatLeaf
+flatLeaf words place = if (isLeaf words) (leafBy (numbered (bitsOf (word words 1))) words place) (notInForm place)
+
 abbrev pub leafOf : List ℤ → ℕ → Outcome Record
-leafOf words place = if (isLeaf words) (leafBy (numbered (bitsOf (word words 1))) words place) (notInForm place)
+leafOf words place = asRecord record'.Leaf (flatLeaf words place)
 
 -- ---- a split: a negative first word has a pattern far above 255
 
@@ -65,8 +78,11 @@ splitOf words =
 abbrev pub isSplit : List ℤ → Bool
 isSplit words = leb (bitsOf (word words 0)) 255 && (leb (lowHalf (word words 5)) 255 && leb (highHalf (word words 5)) 255)
 
+abbrev pub flatSplit : List ℤ → ℕ → Outcome FlatSplit
+flatSplit words place = if (isSplit words) (gives (splitOf words)) (notInForm place)
+
 abbrev pub splitBy : List ℤ → ℕ → Outcome Record
-splitBy words place = if (isSplit words) (gives (record'.Split (splitOf words))) (notInForm place)
+splitBy words place = asRecord record'.Split (flatSplit words place)
 
 unfoldable pub recordOf : List ℤ → ℕ → Outcome Record
 recordOf words place = if (ltb (length words) 6) (notInForm place) (if (isMinusOne (word words 0)) (leafOf words place) (splitBy words place))
@@ -76,6 +92,15 @@ recordOf words place = if (ltb (length words) 6) (notInForm place) (if (isMinusO
 abbrev pub said : RecordRead → Outcome Record
 said (read.Is r) = gives r
 said (read.Refused refusal) = paper refusal
+
+-- the same of a leaf alone and of a split alone, which only this crate reads
+abbrev pub saidLeaf : LeafRead → Outcome FlatLeaf
+saidLeaf (leafRead.Is l) = gives l
+saidLeaf (leafRead.Refused refusal) = paper refusal
+
+abbrev pub saidSplit : SplitRead → Outcome FlatSplit
+saidSplit (splitRead.Is s) = gives s
+saidSplit (splitRead.Refused refusal) = paper refusal
 
 abbrev unsaid : Outcome Record → RecordRead
 unsaid (gives r) = read.Is r

@@ -16,13 +16,14 @@ ghost use Rattle.flat.specs.FlatWalk.{
 };
 ghost use Rattle.integer.specs.Order.{if};
 ghost use Rattle.walk.specs.Walk.{answerOf, said};
-use form::record_here;
+use form::LeafRead;
+use form::SplitRead;
+use form::read_leaf;
+use form::read_split;
 use nodes::Counted;
 use predict::neighbours::PredictionData;
 use records::FlatLeaf;
 use records::FlatSplit;
-use records::Record;
-use records::RecordRead;
 use records::count_records;
 use refusal::Refusal;
 use walk::PredictionResult;
@@ -133,22 +134,27 @@ fn walk_flat(
     let mut place = 0;
     let mut hops: u32 = 0;
     loop {
-        let read = record_here(&words[6 * place..], place as u32);
-        match read {
-            RecordRead::Refused(refusal) => break Walked::Refused(refusal),
-            RecordRead::Is(record) => match record {
-                Record::Leaf(leaf) => break Walked::Is(answer(leaf, data, wp_pred, hops)),
-                Record::Split(split) => {
-                    let next = step(split, place, count, cells);
-                    match next {
-                        Next::Refused(refusal) => break Walked::Refused(refusal),
-                        Next::At(grandchild) => {
-                            place = grandchild;
-                            hops += 1;
-                        }
+        let at = 6 * place;
+        if words[at] == -1 {
+            let leaf_read = read_leaf(&words[at..], place as u32);
+            match leaf_read {
+                LeafRead::Refused(refusal) => break Walked::Refused(refusal),
+                LeafRead::Is(leaf) => break Walked::Is(answer(leaf, data, wp_pred, hops)),
+            }
+        }
+        let split_read = read_split(&words[at..], place as u32);
+        match split_read {
+            SplitRead::Refused(refusal) => break Walked::Refused(refusal),
+            SplitRead::Is(split) => {
+                let next = step(split, place, count, cells);
+                match next {
+                    Next::Refused(refusal) => break Walked::Refused(refusal),
+                    Next::At(grandchild) => {
+                        place = grandchild;
+                        hops += 1;
                     }
                 }
-            },
+            }
         }
     }
 }

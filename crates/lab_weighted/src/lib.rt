@@ -33,7 +33,7 @@ use weighted::state::Opened;
 use weighted::state::Put;
 use weighted::state::WeightedState;
 
-fn header_of(words: &[u32]) -> WeightedHeader
+pub fn header_of(words: &[u32]) -> WeightedHeader
     requires { ⌜ 11 ≤ length (now words) ⌝ }
     ensures { λ r. ⌜ r ≡ headerOf (now (words .entry)) ⌝ }
 {
@@ -93,7 +93,7 @@ fn tell(header: usize, place: usize, found: usize) -> bool
     5 <= found
 }
 
-fn state_of(header: &[u32], place: &[u64], found: &[i64]) -> WeightedState
+pub fn state_of(header: &[u32], place: &[u64], found: &[i64]) -> WeightedState
     requires { ⌜ (11 ≤ length (now header)) × (4 ≤ length (now place)) × (5 ≤ length (now found)) ⌝ }
     ensures { λ r. ⌜ r ≡ stateOf (now (header .entry)) (now (place .entry)) (now (found .entry)) ⌝ }
 {
@@ -116,7 +116,7 @@ fn flag(asked: bool) -> u64
     if asked { 1 } else { 0 }
 }
 
-fn put_place(state: WeightedState, place: &mut [u64])
+pub fn put_place(state: WeightedState, place: &mut [u64])
     requires { ⌜ 4 ≤ length (now place) ⌝ }
     ensures { λ _. ⌜ now (place .exit) ≡ placed state (now (place .entry)) ⌝ }
 {
@@ -126,7 +126,7 @@ fn put_place(state: WeightedState, place: &mut [u64])
     place[3] = flag(state.asked);
 }
 
-fn put_found(given: Found, found: &mut [i64])
+pub fn put_found(given: Found, found: &mut [i64])
     requires { ⌜ 5 ≤ length (now found) ⌝ }
     ensures { λ _. ⌜ now (found .exit) ≡ foundPut given (now (found .entry)) ⌝ }
 {

@@ -7,7 +7,7 @@ use crate::random::Random;
 use decoder::headers::modular::MOST;
 
 /// What an ask finds lies from minus this on and below it; a put tells whether it does (13).
-const FAR: i64 = 1 << 40;
+pub const FAR: i64 = 1 << 40;
 
 pub fn all() {
     calls();
@@ -145,7 +145,7 @@ impl Lent {
 }
 
 /// One word short, or any number of them.
-fn cut<T>(random: &mut Random, list: &mut Vec<T>) {
+pub fn cut<T>(random: &mut Random, list: &mut Vec<T>) {
     let len = if random.once_in(2) { list.len() - 1 } else { random.below(list.len()) };
     list.truncate(len);
 }

@@ -2,25 +2,30 @@
 use borrow.Author.Needs.{needs}
 use mathlib.Core.Path.{_≡_, sym, ap, _∙_}
 use mathlib.Core.List.{List}
-use lib.IntN.{ℤ}
-use lib.ListN.{drop}
+use lib.IntN.{ℤ, pos}
+use lib.ListN.{length, drop, length-drop}
+use lib.Seq.{getD-drop}
 use mir.Facts.{toZ-ofZ}
 use mir.Syntax.{w64}
 use mir.Val.{toZ, ofZ}
 use Prim.Native.Nat.{ℕ, suc, _-_, _*_, _≤_, _<_}
+use native.Mathlib.Nat.{add-zero}
 use native.Mathlib.Numerals.{add-one}
 use native.Mathlib.Omega.{arith}
 use Rattle.nodes.proofs.Lists.{rest}
+use Rattle.nodes.specs.Nodes.{word}
 use Rattle.refusal.specs.Paper.{Outcome, gives}
 use Rattle.walk.specs.Walk.{answerOf, onward}
 use Rattle.walk.specs.declared.PredictionResult.{PredictionResult}
 use Rattle.flat.specs.FlatWalk.{asLeaf, stepOf, enter, flatFrom, saidNext}
-use Rattle.flat.specs.Records.{recordAt, said}
+use Rattle.flat.specs.Records.{asRecord, flatSplit, recordAt, saidLeaf, saidSplit}
 use Rattle.flat.specs.declared.Next.{Next}
+use Rattle.flat.specs.declared.form.LeafRead.{LeafRead}
+use Rattle.flat.specs.declared.form.SplitRead.{SplitRead}
 use Rattle.flat.specs.declared.records.FlatSplit.{FlatSplit}
 use Rattle.flat.specs.declared.records.Record.{Record}
 use Rattle.flat.specs.declared.records.Record.the-variants as record'
-use Rattle.flat.proofs.Read.{properties-small}
+use Rattle.flat.proofs.Read.{leaf-here, split-here, properties-small}
 use Rattle.flat.proofs.Turn.{leads-on, turn}
 use Rattle.flat.proofs.walk_flat.Statement.{statement}
 use Rattle.flat.proofs.walk_flat.Tie as tie
@@ -32,10 +37,10 @@ Inv-loop words count cells «data» wp-pred place₀ hops₀ place hops =
 abbrev μ-loop : tie.MeasureT-loop
 μ-loop words count cells «data» wp-pred place₀ hops₀ place hops = count - place
 
--- what was read at the place, and the whole walk by it
-module _ (c : tie.After-record-here Inv-loop μ-loop) where
+-- the words at the place, and the whole walk by their record
+module _ (c : tie.At-loop Inv-loop μ-loop) where
   abbrev start : tie.Start Inv-loop μ-loop
-  start = c .before .before .before
+  start = c .before
 
   abbrev list : List ℤ
   list = start .args .words .now
@@ -50,46 +55,88 @@ module _ (c : tie.After-record-here Inv-loop μ-loop) where
   wp = toZ w64 (ofZ w64 (start .args .wp-pred))
 
   abbrev place : ℕ
-  place = c .before .before .loop .place
+  place = c .loop .place
 
   abbrev hops : ℕ
-  hops = c .before .before .loop .hops
+  hops = c .loop .hops
 
-  is-record : said (c .record-here .result) ≡ recordAt list place
-  is-record = simp (rest list (6 * place)) at (c .record-here .ensures)
+  abbrev here : List ℤ
+  here = drop (6 * place) list
+
+  six-here : 6 ≤ length here
+  six-here = omega (arith, length-drop (6 * place) list, start .pre .2, c .loop .inv .0)
+
+  first-here : word here 0 ≡ word list (6 * place)
+  first-here = getD-drop (6 * place) list 0 (pos 0) ∙ ap (word list) (add-zero (6 * place))
 
   abbrev entered : Outcome Record → Outcome PredictionResult
   entered it =
       enter (λ s. stepOf given count s place) (λ l. answerOf (asLeaf l) (start .args .«data») wp hops) it hops (flatFrom list given count (start .args .«data») wp (count - suc hops))
 
-  on : flatFrom list given count (start .args .«data») wp count 0 0 ≡ entered (said (c .record-here .result))
-  on = sym (c .before .before .loop .inv .2) ∙ turn list given count (start .args .«data») wp place hops (omega (arith, c .before .before .loop .inv .0, c .before .before .loop .inv .1)) ∙ ap entered (sym is-record)
+  on : flatFrom list given count (start .args .«data») wp count 0 0 ≡ entered (recordAt list place)
+  on = sym (c .loop .inv .2) ∙ turn list given count (start .args .«data») wp place hops (omega (arith, c .loop .inv .0, c .loop .inv .1))
 
-  whole : flatFrom list given count (start .args .«data») (start .args .wp-pred) count 0 0 ≡ entered (said (c .record-here .result))
+  whole : flatFrom list given count (start .args .«data») (start .args .wp-pred) count 0 0 ≡ entered (recordAt list place)
   whole = ap (λ (w : ℤ). flatFrom list given count (start .args .«data») w count 0 0) (sym (toZ-ofZ (start .fits .wp-pred))) ∙ on
 
+-- a leaf: what was read
+module _ (c : tie.After-read-leaf Inv-loop μ-loop) where
+  abbrev at-leaf : tie.At-loop Inv-loop μ-loop
+  at-leaf = c .before .before .before .before
+
+  abbrev leafwise : LeafRead → Outcome PredictionResult
+  leafwise read = entered at-leaf (asRecord record'.Leaf (saidLeaf read))
+
+  leaf-read-here : entered at-leaf (recordAt (list at-leaf) (place at-leaf)) ≡ leafwise (c .read-leaf .result)
+  leaf-read-here =
+      let test = c .before .before in
+      ap (entered at-leaf)
+      (leaf-here (here at-leaf) (place at-leaf) (six-here at-leaf) (word (list at-leaf) (6 * place at-leaf)) (first-here at-leaf) (record { sfits = test .before .if12 .given }) (test .if1 .taken)
+      ∙ ap (asRecord record'.Leaf) (sym (simp (rest (list at-leaf) (6 * place at-leaf)) at (c .read-leaf .ensures))))
+
 -- a split: what was read, and where it leads
-module _ (c : tie.After-record2 Inv-loop μ-loop) where
-  abbrev read : tie.After-record-here Inv-loop μ-loop
-  read = c .before .before .before .before .before
+module _ (c : tie.After-read-split Inv-loop μ-loop) where
+  abbrev at-split : tie.At-loop Inv-loop μ-loop
+  at-split = c .before .before .before .before
+
+  is-read : saidSplit (c .read-split .result) ≡ flatSplit (here at-split) (place at-split)
+  is-read = simp (rest (list at-split) (6 * place at-split)) at (c .read-split .ensures)
+
+  abbrev splitwise : SplitRead → Outcome PredictionResult
+  splitwise read = entered at-split (asRecord record'.Split (saidSplit read))
+
+  split-read-here : entered at-split (recordAt (list at-split) (place at-split)) ≡ splitwise (c .read-split .result)
+  split-read-here =
+      let test = c .before .before in
+      ap (entered at-split)
+      (split-here (here at-split) (place at-split) (six-here at-split) (word (list at-split) (6 * place at-split)) (first-here at-split) (record { sfits = test .before .if12 .given }) (test .if1 .left)
+      ∙ ap (asRecord record'.Split) (sym is-read))
+
+module _ (c : tie.After-split-read2 Inv-loop μ-loop) where
+  abbrev read : tie.After-read-split Inv-loop μ-loop
+  read = c .before .before
 
   abbrev split : FlatSplit
-  split = c .record2 .given .0 .0
+  split = c .split-read2 .given .0 .0
 
-  is-split : said (read .record-here .result) ≡ gives (record'.Split split)
-  is-split = ap said (c .before .before .before .read2 .given .1) ∙ ap (λ (r : Record). gives r) (c .record2 .given .1)
+  is-split : flatSplit (here (at-split read)) (place (at-split read)) ≡ gives split
+  is-split = sym (is-read read) ∙ ap saidSplit (c .split-read2 .given .1)
 
 module _ (c : tie.After-step Inv-loop μ-loop) where
-  abbrev at : tie.After-record-here Inv-loop μ-loop
-  at = read (c .before .before)
+  abbrev found : tie.After-split-read2 Inv-loop μ-loop
+  found = c .before .before
+
+  abbrev at : tie.At-loop Inv-loop μ-loop
+  at = at-split (read found)
 
   abbrev told : Next → Outcome PredictionResult
   told next =
       onward (saidNext next) (hops at) (flatFrom (list at) (given at) (count at) (start at .args .«data») (wp at) (count at - suc (hops at)))
 
-  steps : entered at (said (at .record-here .result)) ≡ told (c .step .result)
+  steps : entered at (recordAt (list at) (place at)) ≡ told (c .step .result)
   steps =
-      ap (entered at) (is-split (c .before .before))
+      split-read-here (read found)
+      ∙ ap (splitwise (read found)) (found .split-read2 .given .1)
       ∙ ap (λ (o : Outcome ℕ). onward o (hops at) (flatFrom (list at) (given at) (count at) (start at .args .«data») (wp at) (count at - suc (hops at)))) (sym (c .step .ensures))
 
 module _ (c : tie.After-next2 Inv-loop μ-loop) where
@@ -101,7 +148,7 @@ module _ (c : tie.After-next2 Inv-loop μ-loop) where
 
   leads : (place (at stepped) < onto) × (onto < count (at stepped))
   leads =
-      leads-on (given (at stepped)) (count (at stepped)) (split (stepped .before .before)) (place (at stepped)) onto
+      leads-on (given (at stepped)) (count (at stepped)) (split (found stepped)) (place (at stepped)) onto
       (sym (stepped .step .ensures) ∙ ap saidNext (c .next2 .given .1))
 
 loop-holds : tie.Need-loop-holds Inv-loop μ-loop
@@ -109,47 +156,71 @@ loop-holds c =
     let full : c .args .count - 0 ≡ c .args .count = omega arith in
     (c .pre .0, omega arith, rw full)
 
-mul-record-here : tie.Need-mul-record-here Inv-loop μ-loop
-mul-record-here c = search needs
+mul-at : tie.Need-mul-at Inv-loop μ-loop
+mul-at c = search needs
 
-mul-record-here-2 : tie.Need-mul-record-here-2 Inv-loop μ-loop
-mul-record-here-2 c = search needs
+mul-if1 : tie.Need-mul-if1 Inv-loop μ-loop
+mul-if1 c = search needs
 
-sub-record-here : tie.Need-sub-record-here Inv-loop μ-loop
-sub-record-here c = search needs
+shared-slice-copy-out-if1 : tie.Need-shared-slice-copy-out-if1 Inv-loop μ-loop
+shared-slice-copy-out-if1 c = search needs
 
-part-record-here-start : tie.Need-part-record-here-start Inv-loop μ-loop
-part-record-here-start c = search needs
+mul-read-leaf : tie.Need-mul-read-leaf Inv-loop μ-loop
+mul-read-leaf c = search needs
 
-part-record-here-end : tie.Need-part-record-here-end Inv-loop μ-loop
-part-record-here-end c = search needs
+sub-read-leaf : tie.Need-sub-read-leaf Inv-loop μ-loop
+sub-read-leaf c = search needs
 
-cast-record-here : tie.Need-cast-record-here Inv-loop μ-loop
-cast-record-here c = search needs
+part-read-leaf-start : tie.Need-part-read-leaf-start Inv-loop μ-loop
+part-read-leaf-start c = search needs
 
-record-here-requires : tie.Need-record-here-requires Inv-loop μ-loop
-record-here-requires c κs = search needs
+part-read-leaf-end : tie.Need-part-read-leaf-end Inv-loop μ-loop
+part-read-leaf-end c = search needs
 
-enum-known-read : tie.Need-enum-known-read Inv-loop μ-loop
-enum-known-read c = search needs
+cast-read-leaf : tie.Need-cast-read-leaf Inv-loop μ-loop
+cast-read-leaf c = search needs
 
-enum-known-read-2 : tie.Need-enum-known-read-2 Inv-loop μ-loop
-enum-known-read-2 c = search needs
+read-leaf-requires : tie.Need-read-leaf-requires Inv-loop μ-loop
+read-leaf-requires c κs = search needs
 
-enum-known-record : tie.Need-enum-known-record Inv-loop μ-loop
-enum-known-record c = search needs
+enum-known-leaf-read : tie.Need-enum-known-leaf-read Inv-loop μ-loop
+enum-known-leaf-read c = search needs
+
+enum-known-leaf-read-2 : tie.Need-enum-known-leaf-read-2 Inv-loop μ-loop
+enum-known-leaf-read-2 c = search needs
 
 answer-requires : tie.Need-answer-requires Inv-loop μ-loop
 answer-requires c κs = search needs
 
-enum-known-record-2 : tie.Need-enum-known-record-2 Inv-loop μ-loop
-enum-known-record-2 c = search needs
+mul-read-split : tie.Need-mul-read-split Inv-loop μ-loop
+mul-read-split c = search needs
+
+sub-read-split : tie.Need-sub-read-split Inv-loop μ-loop
+sub-read-split c = search needs
+
+part-read-split-start : tie.Need-part-read-split-start Inv-loop μ-loop
+part-read-split-start c = search needs
+
+part-read-split-end : tie.Need-part-read-split-end Inv-loop μ-loop
+part-read-split-end c = search needs
+
+cast-read-split : tie.Need-cast-read-split Inv-loop μ-loop
+cast-read-split c = search needs
+
+read-split-requires : tie.Need-read-split-requires Inv-loop μ-loop
+read-split-requires c κs = search needs
+
+enum-known-split-read : tie.Need-enum-known-split-read Inv-loop μ-loop
+enum-known-split-read c = search needs
+
+enum-known-split-read-2 : tie.Need-enum-known-split-read-2 Inv-loop μ-loop
+enum-known-split-read-2 c = search needs
 
 step-requires : tie.Need-step-requires Inv-loop μ-loop
 step-requires c κs =
-    let t = read (c .before) in
-    let small = properties-small (drop (6 * place t) (list t)) (place t) (sym (is-record t) ∙ is-split (c .before)) in
-    (omega (arith, t .before .before .loop .inv .0, start t .pre .1), small .0, small .1, small .2)
+    let t = at-split (read (c .before)) in
+    let small = properties-small (here t) (place t) (is-split (c .before)) in
+    (omega (arith, t .loop .inv .0, start t .pre .1), small .0, small .1, small .2)
 
 enum-known-next : tie.Need-enum-known-next Inv-loop μ-loop
 enum-known-next c = search needs
@@ -170,24 +241,28 @@ loop-again c =
     let t = stepped (c .before) in
     let later = leads (c .before) in (
       later .1,
-      omega (arith, later .0, at t .before .before .loop .inv .1),
+      omega (arith, later .0, at t .loop .inv .1),
       rw (add-one (hops (at t))) (sym (on (at t) ∙ steps t ∙ ap (told t) (c .before .next2 .given .1))),
     )
 
 returns : tie.Need-returns Inv-loop μ-loop
 returns c =
     let t = c .before .before .before in
-    sym (whole t ∙ ap (λ r. entered t (said r)) (c .before .read .given .1))
+    sym (whole (at-leaf t) ∙ leaf-read-here t ∙ ap (leafwise t) (c .before .leaf-read .given .1))
 
 returns-2 : tie.Need-returns-2 Inv-loop μ-loop
 returns-2 c =
     let n = c .before .before in
-    let t = n .before .before .before .before .before in
-    let is-leaf = ap said (n .before .before .before .read2 .given .1) ∙ ap (λ (r : Record). gives r) (n .record .given .1) in
-    sym (whole t ∙ ap (entered t) is-leaf ∙ ap (λ r. gives r) (sym (c .answer .ensures)))
+    let t = n .before .before in
+    sym (whole (at-leaf t) ∙ leaf-read-here t ∙ ap (leafwise t) (n .leaf-read2 .given .1) ∙ ap (λ r. gives r) (sym (c .answer .ensures)))
 
 returns-3 : tie.Need-returns-3 Inv-loop μ-loop
 returns-3 c =
+    let t = c .before .before .before in
+    sym (whole (at-split t) ∙ split-read-here t ∙ ap (splitwise t) (c .before .split-read .given .1))
+
+returns-4 : tie.Need-returns-4 Inv-loop μ-loop
+returns-4 c =
     let t = c .before .before .before in
     sym (whole (at t) ∙ steps t ∙ ap (told t) (c .before .next .given .1))
 
@@ -198,18 +273,26 @@ walk-flat-spec =
     Inv-loop
     μ-loop
     loop-holds
-    mul-record-here
-    mul-record-here-2
-    sub-record-here
-    part-record-here-start
-    part-record-here-end
-    cast-record-here
-    record-here-requires
-    enum-known-read
-    enum-known-read-2
-    enum-known-record
+    mul-at
+    mul-if1
+    shared-slice-copy-out-if1
+    mul-read-leaf
+    sub-read-leaf
+    part-read-leaf-start
+    part-read-leaf-end
+    cast-read-leaf
+    read-leaf-requires
+    enum-known-leaf-read
+    enum-known-leaf-read-2
     answer-requires
-    enum-known-record-2
+    mul-read-split
+    sub-read-split
+    part-read-split-start
+    part-read-split-end
+    cast-read-split
+    read-split-requires
+    enum-known-split-read
+    enum-known-split-read-2
     step-requires
     enum-known-next
     enum-known-next-2
@@ -218,4 +301,5 @@ walk-flat-spec =
     loop-again
     returns
     returns-2
-    returns-3)
+    returns-3
+    returns-4)
