@@ -1,0 +1,4 @@
+pub mod Bytes
+pub mod Room
+pub mod Tree
+pub mod Steps
