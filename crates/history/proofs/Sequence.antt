@@ -24,8 +24,9 @@ use Rattle.integer.specs.Fill.{filled}
 use Rattle.integer.specs.Order.{if}
 use Rattle.predict.specs.declared.neighbours.PredictionData.{PredictionData}
 use Rattle.refusal.specs.Paper.{Outcome, gives}
+use Rattle.weighted.proofs.Allowed.{may}
 use Rattle.weighted.specs.Memory.{needed, previous, current, updated}
-use Rattle.weighted.specs.State.{isWidth, isPlace, allowed, atStart, nothing, opens, asks, puts, answered, onward}
+use Rattle.weighted.specs.State.{isWidth, atStart, nothing, opens, asks, puts, answered, onward}
 use Rattle.weighted.specs.declared.state.Answer.{Answer}
 use Rattle.weighted.specs.declared.state.WeightedState.{WeightedState}
 use Rattle.history.specs.Calls.{Words, Before, onePixel, calls}
@@ -33,14 +34,6 @@ use Rattle.history.specs.Standard.{trueErrors, errSums, history, predict
 use Rattle.history.proofs.Invariant.{Layout, at-start, put-keeps, goes-on, halves}
 use Rattle.history.proofs.Past.{history-words, errors-small}
 use Rattle.history.proofs.Reading.{errors-read, sums-read}
-
--- what is allowed follows
-may : {A : Type 0} (s : WeightedState) (turn : Bool) (lent : ℕ) (next : Outcome A)
-    → inRange (s .header) ≡ true → isPlace s ≡ true → turn ≡ true → needed (s .width) ≤ lent → allowed s turn lent next ≡ next
-unfolding allowed
-may s turn lent next ranged inside its enough =
-    let roomy = le-leb (needed (s .width)) lent enough in
-    simp (ranged, inside, its, roomy)
 
 -- a pixel that is answered and then put
 one-pixel : (b : Before) (d : PredictionData) (v : ℤ) (a : Answer) → asks (b .state) (b .memory) d ≡ gives a → puts (a .state) (b .memory) ≡ gives (onward (a .state))

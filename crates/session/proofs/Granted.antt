@@ -22,10 +22,9 @@ use Rattle.nodes.specs.Nodes.{then}
 use Rattle.predict.specs.Neighbours.{hasWidth, inDomain, neighbours}
 use Rattle.predict.specs.declared.neighbours.PredictionData.{PredictionData}
 use Rattle.refusal.specs.Paper.{Outcome, gives, refuses}
-use Rattle.weighted.proofs.Allowed.{test-passed}
+use Rattle.weighted.proofs.Allowed.{may, test-passed}
 use Rattle.weighted.specs.Memory.{needed}
-use Rattle.weighted.specs.State.{test, isWidth, isPlace, allowed, atStart, answered, predictedAt, onward, asks, puts}
-use Rattle.weighted.specs.declared.state.WeightedState.{WeightedState}
+use Rattle.weighted.specs.State.{test, isWidth, isPlace, atStart, answered, predictedAt, onward, asks, puts}
 use Rattle.session.specs.Session.{width, column, line, isPixel, isLent, isDue, someRecords, hasRoom, mayOpen, mayAsk, mayPut, rowsOf, silent, answeredBy, learnt}
 use Rattle.session.specs.Weights.{starts, startsOn, answersOf, learns, learnsOn}
 use Rattle.session.specs.declared.Session.{Session}
@@ -164,17 +163,12 @@ fetches s plane p =
 
 -- ---- the weighted state
 
-may : {A : Type 0} (s : WeightedState) (turn : Bool) (lent : ℕ) (next : Outcome A)
-    → inRange (s .header) ≡ true → isPlace s ≡ true → turn ≡ true → leb (needed (s .width)) lent ≡ true → allowed s turn lent next ≡ next
-unfolding allowed
-may s turn lent next ranged inside its enough = rw (ranged, inside, its, enough)
-
 pub answers : (s : Session) (size references : ℕ) (cells : ℕ) (m : List ℕ) (d : PredictionData) → AskGranted s size references cells (length m)
     → answersOf (s .weights) (s .weighted) m d ≡ gives (answeredBy s m d)
 answers s size references cells m d g = by (s .weights) (g .memory)
   where
     by : (t : Bool) → isLent t (width s) (length m) ≡ true → answersOf t (s .weighted) m d ≡ gives (answered (s .weighted) (if t (predictedAt (s .weighted) m d) silent))
-    by true enough = may (s .weighted) (not (s .weighted .asked)) (length m) _ (g .in-range) (place s (g .placed)) (g .turn) enough
+    by true enough = may (s .weighted) (not (s .weighted .asked)) (length m) _ (g .in-range) (place s (g .placed)) (g .turn) (leb-true (needed (width s)) (length m) enough)
     by false enough = refl
 
 -- ---- the tests of a put
@@ -199,7 +193,7 @@ module _ (s : Session) (size : ℕ) (m : List ℕ) (g : PutGranted s size (lengt
     where
       by : (t : Bool) → isLent t (width s) (length m) ≡ true → (s .weighted .asked && if t (possible (s .weighted .found)) true) ≡ true
           → learns t (s .weighted) m ≡ gives (onward (s .weighted))
-      by true enough due = may (s .weighted) (s .weighted .asked && possible (s .weighted .found)) (length m) _ (g .in-range) (place s (g .placed)) due enough
+      by true enough due = may (s .weighted) (s .weighted .asked && possible (s .weighted .found)) (length m) _ (g .in-range) (place s (g .placed)) due (leb-true (needed (width s)) (length m) enough)
       by false enough due = rw (place s (g .placed))
 
   pub learns-so : (v : ℤ) → learnsOn (s .weights) (s .weighted) m v ≡ learnt s m v
@@ -209,7 +203,7 @@ module _ (s : Session) (size : ℕ) (m : List ℕ) (g : PutGranted s size (lengt
           → learnsOn t (s .weighted) m v ≡ learnt (record { weighted = s .weighted; weights = t; mask = s .mask; live = s .live; guess = s .guess; multiplier = s .multiplier }) m v
       by true enough due =
           let on : puts (s .weighted) m ≡ gives (onward (s .weighted)) =
-          may (s .weighted) (s .weighted .asked && possible (s .weighted .found)) (length m) _ (g .in-range) (place s (g .placed)) due enough
+          may (s .weighted) (s .weighted .asked && possible (s .weighted .found)) (length m) _ (g .in-range) (place s (g .placed)) due (leb-true (needed (width s)) (length m) enough)
           in
           rw on
       by false enough due = refl

@@ -69,6 +69,12 @@ carry true true false d k next = refl
 carry true true true false k next = refl
 carry true true true true k next = refl
 
+-- where each test holds, what follows
+pub may : {A : Type 0} (s : WeightedState) (turn : Bool) (lent : ℕ) (next : Outcome A)
+    → inRange (s .header) ≡ true → isPlace s ≡ true → turn ≡ true → needed (s .width) ≤ lent → allowed s turn lent next ≡ next
+unfolding allowed
+may s turn lent next ranged inside its enough = rw (ranged, inside, its, le-leb (needed (s .width)) lent enough)
+
 module _ (s : WeightedState) (turn : Bool) (lent : ℕ) where
   -- what the tests say, whatever follows
   abbrev pub verdict : Outcome Unit
