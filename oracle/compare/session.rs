@@ -180,7 +180,7 @@ fn sizes() {
         Tally::new("the same, cells and memory after each row"),
     ];
     let random = &mut Random::new(49);
-    while tallies[0].cases < 12_000_000 {
+    while tallies[0].cases < 44_000_000 {
         let size = some_size(random);
         let channel = Channel::any(random, size, 6);
         check(&mut tallies, random, &channel);

@@ -11,28 +11,13 @@ use Rattle.history.specs.Calls.{calls}
 use Rattle.history.specs.Standard.{predicted}
 use Rattle.integer.specs.Fill.{filled}
 use Rattle.integer.specs.Order.{if}
+use Rattle.lab_weighted.specs.Told.{headerOf}
 use Rattle.predict.specs.declared.neighbours.PredictionData.{PredictionData}
 use Rattle.refusal.specs.Paper.{Outcome, gives, refuses, one-value}
 use Rattle.weighted.specs.State.{test, opens, cleared}
 use Rattle.weighted.specs.declared.state.WeightedState.{WeightedState}
 
 -- ---- what the lists hold
-
--- the header, eleven words
-abbrev pub headerOf : List ℕ → WeightedHeader
-headerOf words = record {
-  p1c = getD words 0 0;
-  p2c = getD words 1 0;
-  p3ca = getD words 2 0;
-  p3cb = getD words 3 0;
-  p3cc = getD words 4 0;
-  p3cd = getD words 5 0;
-  p3ce = getD words 6 0;
-  w0 = getD words 7 0;
-  w1 = getD words 8 0;
-  w2 = getD words 9 0;
-  w3 = getD words 10 0;
-}
 
 -- the neighbours of pixel k, seven words a pixel
 abbrev pub neighboursOf : List ℤ → ℕ → PredictionData

@@ -5,39 +5,18 @@ ghost use lib.Dec.{leb};
 ghost use lib.ListN.{length, set};
 ghost use Prim.Native.Nat.{_+_, _*_, _^_, _≤_};
 ghost use Rattle.bench_weighted.specs.Weighed.{
-  headerOf,
   neighboursOf,
   Fresh,
   WeighsAll,
   WeighsPlane,
 };
-use blend::WeightedHeader;
 use integer::widen;
+use lab_weighted::header_of;
 use predict::neighbours::PredictionData;
 use weighted::state::Asked;
 use weighted::state::Opened;
 use weighted::state::Put;
 use weighted::state::WeightedState;
-
-// The header from its eleven words.
-fn header_of(words: &[u32]) -> WeightedHeader
-    requires { ⌜ 11 ≤ length (now words) ⌝ }
-    ensures { λ r. ⌜ r ≡ headerOf (now (words .entry)) ⌝ }
-{
-    WeightedHeader {
-        p1c: words[0],
-        p2c: words[1],
-        p3ca: words[2],
-        p3cb: words[3],
-        p3cc: words[4],
-        p3cd: words[5],
-        p3ce: words[6],
-        w0: words[7],
-        w1: words[8],
-        w2: words[9],
-        w3: words[10],
-    }
-}
 
 // The neighbours of pixel k, seven words a pixel.
 fn neighbours_of(data: &[i32], k: usize) -> PredictionData

@@ -19,7 +19,6 @@ use Rattle.lab_session.specs.Told.{tellSession, Written}
 -- the code's test held
 pub record Longs (header place found settings told : ℕ) : Type 0 where
   pub tells : tellSession header place found settings told ≡ true
-  pub header-long : 11 ≤ header
   pub place-long : 4 ≤ place
   pub found-long : 6 ≤ found
   pub settings-long : 4 ≤ settings
@@ -38,7 +37,6 @@ longs header place found settings told e turned =
     let two = and-left (a && b) c three in
     record {
       tells = all;
-      header-long = leb-true _ _ (and-left a b two);
       place-long = leb-true _ _ (and-right a b two);
       found-long = leb-true _ _ (and-right (a && b) c three);
       settings-long = leb-true _ _ (and-right (a && b && c) d four);

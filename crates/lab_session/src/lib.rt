@@ -29,15 +29,16 @@ ghost use Rattle.lab_session.specs.Told.{
   settled,
   tellSession,
 };
+use lab_weighted::found_of;
 use lab_weighted::header_of;
 use lab_weighted::put_found;
 use lab_weighted::put_place;
-use lab_weighted::state_of;
 use session::AskAnswer;
 use session::OpenAnswer;
 use session::PutAnswer;
 use session::Session;
 use told::tell;
+use weighted::state::WeightedState;
 
 // Whether lists of these lengths tell a session, with room for what is told of an answer.
 fn tell_session(header: usize, place: usize, found: usize, settings: usize, told: usize) -> bool
@@ -59,10 +60,19 @@ fn tell_session(header: usize, place: usize, found: usize, settings: usize, told
 }
 
 fn session_of(header: &[u32], place: &[u64], found: &[i64], settings: &[u32]) -> Session
-    requires { ⌜ (11 ≤ length (now header)) × (4 ≤ length (now place)) × (6 ≤ length (now found)) × (4 ≤ length (now settings)) ⌝ }
+    requires { ⌜ (4 ≤ length (now place)) × (6 ≤ length (now found)) × (4 ≤ length (now settings)) ⌝ }
     ensures { λ r. ⌜ r ≡ sessionOf (now (header .entry)) (now (place .entry)) (now (found .entry)) (now (settings .entry)) ⌝ }
 {
-    let weighted = state_of(header, place, found);
+    let known = header_of(header);
+    let before = found_of(found);
+    let weighted = WeightedState {
+        header: known,
+        width: place[0] as usize,
+        x: place[1] as usize,
+        y: place[2] as usize,
+        asked: place[3] != 0,
+        found: before,
+    };
     Session {
         weighted,
         weights: settings[0] != 0,
@@ -100,7 +110,7 @@ fn put_guess(session: Session, found: &mut [i64])
 }
 
 fn put_session(session: Session, place: &mut [u64], found: &mut [i64], settings: &mut [u32])
-    requires { ⌜ (4 ≤ length (now place)) × (6 ≤ length (now found)) × (4 ≤ length (now settings)) ⌝ }
+    requires { ⌜ (6 ≤ length (now found)) × (4 ≤ length (now settings)) ⌝ }
     ensures { λ _. ⌜ Written (gives session) (now (place .entry)) (now (found .entry)) (now (settings .entry)) (now (place .exit)) (now (found .exit)) (now (settings .exit)) ⌝ }
 {
     put_place(session.weighted, place);
@@ -115,7 +125,7 @@ fn tell_opened(
     settings: &mut [u32],
     told: &mut [i64],
 ) -> u32
-    requires { ⌜ (4 ≤ length (now place)) × (6 ≤ length (now found)) × (4 ≤ length (now settings)) × (5 ≤ length (now told)) ⌝ }
+    requires { ⌜ (6 ≤ length (now found)) × (4 ≤ length (now settings)) × (5 ≤ length (now told)) ⌝ }
     ensures { λ r. ⌜ Tells noWords true (saidOpened opened) (now (told .entry)) r (now (told .exit)) ⌝ }
     ensures { λ _. ⌜ Written (saidOpened opened) (now (place .entry)) (now (found .entry)) (now (settings .entry)) (now (place .exit)) (now (found .exit)) (now (settings .exit)) ⌝ }
 {
@@ -167,7 +177,7 @@ fn tell_asked(
     settings: &mut [u32],
     told: &mut [i64],
 ) -> u32
-    requires { ⌜ (4 ≤ length (now place)) × (6 ≤ length (now found)) × (4 ≤ length (now settings)) × (5 ≤ length (now told)) ⌝ }
+    requires { ⌜ (6 ≤ length (now found)) × (4 ≤ length (now settings)) × (5 ≤ length (now told)) ⌝ }
     ensures { λ r. ⌜ Tells contextWords true (saidAsked asked) (now (told .entry)) r (now (told .exit)) ⌝ }
     ensures { λ _. ⌜ Written (gives (sessionAsked asked)) (now (place .entry)) (now (found .entry)) (now (settings .entry)) (now (place .exit)) (now (found .exit)) (now (settings .exit)) ⌝ }
 {
@@ -222,7 +232,7 @@ fn tell_put(
     settings: &mut [u32],
     told: &mut [i64],
 ) -> u32
-    requires { ⌜ (4 ≤ length (now place)) × (6 ≤ length (now found)) × (4 ≤ length (now settings)) × (5 ≤ length (now told)) ⌝ }
+    requires { ⌜ (6 ≤ length (now found)) × (4 ≤ length (now settings)) × (5 ≤ length (now told)) ⌝ }
     ensures { λ r. ⌜ Tells nothing true (saidPut put) (now (told .entry)) r (now (told .exit)) ⌝ }
     ensures { λ _. ⌜ Written (gives (sessionPut put)) (now (place .entry)) (now (found .entry)) (now (settings .entry)) (now (place .exit)) (now (found .exit)) (now (settings .exit)) ⌝ }
 {

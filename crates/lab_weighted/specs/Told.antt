@@ -7,41 +7,50 @@ use Prim.Native.Nat.{ℕ}
 use lib.Dec.{leb, eqb}
 use lib.IntN.{ℤ, pos}
 use lib.ListN.{length, getD, drop}
+use Rattle.blend.specs.Blend.{defaults}
 use Rattle.blend.specs.declared.Found.{Found}
 use Rattle.blend.specs.declared.WeightedHeader.{WeightedHeader}
 use Rattle.integer.specs.Order.{if}
 use Rattle.predict.specs.declared.neighbours.PredictionData.{PredictionData}
 use Rattle.refusal.specs.Paper.{Outcome, gives, refuses, one-value}
 use Rattle.weighted.specs.Saved.{savedWords, savedWord, restoredWord, copies, afterCopy}
-use Rattle.weighted.specs.State.{test, opens, cleared, asks, puts, afterPut}
+use Rattle.weighted.specs.State.{test, nothing, opens, cleared, asks, puts, afterPut}
 use Rattle.weighted.specs.declared.state.Answer.{Answer}
 use Rattle.weighted.specs.declared.state.WeightedState.{WeightedState}
 
 -- ---- lists read
 
-abbrev pub headerOf : List ℕ → WeightedHeader
-headerOf words = record {
-  p1c = getD words 0 0;
-  p2c = getD words 1 0;
-  p3ca = getD words 2 0;
-  p3cb = getD words 3 0;
-  p3cc = getD words 4 0;
-  p3cd = getD words 5 0;
-  p3ce = getD words 6 0;
-  w0 = getD words 7 0;
-  w1 = getD words 8 0;
-  w2 = getD words 9 0;
-  w3 = getD words 10 0;
-}
+-- eleven values, or the defaults
+unfoldable pub headerOf : List ℕ → WeightedHeader
+headerOf words =
+    if (leb 11 (length words))
+    (record {
+      p1c = getD words 0 0;
+      p2c = getD words 1 0;
+      p3ca = getD words 2 0;
+      p3cb = getD words 3 0;
+      p3cc = getD words 4 0;
+      p3cd = getD words 5 0;
+      p3ce = getD words 6 0;
+      w0 = getD words 7 0;
+      w1 = getD words 8 0;
+      w2 = getD words 9 0;
+      w3 = getD words 10 0;
+    })
+    defaults
 
-abbrev pub foundOf : List ℤ → Found
-foundOf words = record {
-  p0 = getD words 0 (pos 0);
-  p1 = getD words 1 (pos 0);
-  p2 = getD words 2 (pos 0);
-  p3 = getD words 3 (pos 0);
-  pred = getD words 4 (pos 0);
-}
+-- five values, or none
+unfoldable pub foundOf : List ℤ → Found
+foundOf words =
+    if (leb 5 (length words))
+    (record {
+      p0 = getD words 0 (pos 0);
+      p1 = getD words 1 (pos 0);
+      p2 = getD words 2 (pos 0);
+      p3 = getD words 3 (pos 0);
+      pred = getD words 4 (pos 0);
+    })
+    nothing
 
 abbrev pub dataOf : List ℤ → PredictionData
 dataOf words = record {
@@ -72,13 +81,13 @@ tell header place found = leb 11 header && leb 4 place && leb 5 found
 abbrev pub told : {A : Type 0} → List ℕ → List ℕ → List ℤ → Outcome A → Outcome A
 told header place found next = test (tell (length header) (length place) (length found)) 8 0 next
 
--- ---- lists written
+-- ---- lists written, where there is room
 
 abbrev pub placed : WeightedState → List ℕ → List ℕ
-placed s words = s .width ∷ s .x ∷ s .y ∷ if (s .asked) 1 0 ∷ drop 4 words
+placed s words = if (leb 4 (length words)) (s .width ∷ s .x ∷ s .y ∷ if (s .asked) 1 0 ∷ drop 4 words) words
 
 abbrev pub foundPut : Found → List ℤ → List ℤ
-foundPut f words = f .p0 ∷ f .p1 ∷ f .p2 ∷ f .p3 ∷ f .pred ∷ drop 5 words
+foundPut f words = if (leb 5 (length words)) (f .p0 ∷ f .p1 ∷ f .p2 ∷ f .p3 ∷ f .pred ∷ drop 5 words) words
 
 abbrev pub answerPut : Answer → List ℤ → List ℤ
 answerPut a words = a .guess ∷ a .property ∷ drop 2 words

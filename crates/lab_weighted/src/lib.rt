@@ -33,10 +33,13 @@ use weighted::state::Opened;
 use weighted::state::Put;
 use weighted::state::WeightedState;
 
+// The eleven values, or the defaults where there are fewer.
 pub fn header_of(words: &[u32]) -> WeightedHeader
-    requires { ⌜ 11 ≤ length (now words) ⌝ }
     ensures { λ r. ⌜ r ≡ headerOf (now (words .entry)) ⌝ }
 {
+    if words.len() < 11 {
+        return WeightedHeader::default();
+    }
     WeightedHeader {
         p1c: words[0],
         p2c: words[1],
@@ -52,10 +55,19 @@ pub fn header_of(words: &[u32]) -> WeightedHeader
     }
 }
 
-fn found_of(words: &[i64]) -> Found
-    requires { ⌜ 5 ≤ length (now words) ⌝ }
+// The five values, 0 where there are fewer.
+pub fn found_of(words: &[i64]) -> Found
     ensures { λ r. ⌜ r ≡ foundOf (now (words .entry)) ⌝ }
 {
+    if words.len() < 5 {
+        return Found {
+            p0: 0,
+            p1: 0,
+            p2: 0,
+            p3: 0,
+            pred: 0,
+        };
+    }
     Found {
         p0: words[0],
         p1: words[1],
@@ -93,7 +105,7 @@ fn tell(header: usize, place: usize, found: usize) -> bool
     5 <= found
 }
 
-pub fn state_of(header: &[u32], place: &[u64], found: &[i64]) -> WeightedState
+fn state_of(header: &[u32], place: &[u64], found: &[i64]) -> WeightedState
     requires { ⌜ (11 ≤ length (now header)) × (4 ≤ length (now place)) × (5 ≤ length (now found)) ⌝ }
     ensures { λ r. ⌜ r ≡ stateOf (now (header .entry)) (now (place .entry)) (now (found .entry)) ⌝ }
 {
@@ -116,20 +128,26 @@ fn flag(asked: bool) -> u64
     if asked { 1 } else { 0 }
 }
 
+// The state's place as the first four words, where there are as many.
 pub fn put_place(state: WeightedState, place: &mut [u64])
-    requires { ⌜ 4 ≤ length (now place) ⌝ }
     ensures { λ _. ⌜ now (place .exit) ≡ placed state (now (place .entry)) ⌝ }
 {
+    if place.len() < 4 {
+        return;
+    }
     place[0] = state.width as u64;
     place[1] = state.x as u64;
     place[2] = state.y as u64;
     place[3] = flag(state.asked);
 }
 
+// What was found as the first five words, where there are as many.
 pub fn put_found(given: Found, found: &mut [i64])
-    requires { ⌜ 5 ≤ length (now found) ⌝ }
     ensures { λ _. ⌜ now (found .exit) ≡ foundPut given (now (found .entry)) ⌝ }
 {
+    if found.len() < 5 {
+        return;
+    }
     let p0 = given.p0;
     let p1 = given.p1;
     let p2 = given.p2;

@@ -10,10 +10,11 @@ use mathlib.Core.Path.{_≡_, refl, sym, ap, _∙_}
 use native.Mathlib.Omega.{arith}
 use Prim.Native.Nat.{ℕ, _*_, _^_, _≤_}
 use Rattle.integer.proofs.Tests.{was-false, was-true}
+use Rattle.lab_weighted.specs.Told.{headerOf}
 use Rattle.refusal.specs.Paper.{Outcome, gives, refuses}
 use Rattle.weighted.specs.State.{opens, cleared, saidOpened}
 use Rattle.weighted.specs.declared.state.WeightedState.{WeightedState}
-use Rattle.bench_weighted.specs.Weighed.{headerOf, memoryAfter, answersTo, weighs, status, after, WeighsPlane}
+use Rattle.bench_weighted.specs.Weighed.{memoryAfter, answersTo, weighs, status, after, WeighsPlane}
 use Rattle.bench_weighted.proofs.Opening.{started, fresh-left, weighs-on}
 use Rattle.bench_weighted.proofs.matuviso_weigh_plane.Statement.{statement}
 use Rattle.bench_weighted.proofs.matuviso_weigh_plane.Tie as tie

@@ -31,7 +31,7 @@ returns c =
 session-of-requires : tie.Need-session-of-requires
 session-of-requires c κs =
     let l = long (c .before .before .before) in
-    (l .header-long, l .place-long, l .found-long, l .settings-long)
+    (l .place-long, l .found-long, l .settings-long)
 
 ask-requires : tie.Need-ask-requires
 ask-requires c κs = search needs
@@ -39,7 +39,7 @@ ask-requires c κs = search needs
 tell-asked-requires : tie.Need-tell-asked-requires
 tell-asked-requires c κs =
     let l = long (c .before .before .before .before .before .before .before .before .before .before .before) in
-    (l .place-long, l .found-long, l .settings-long, l .told-long)
+    (l .found-long, l .settings-long, l .told-long)
 
 same-length : tie.Need-same-length
 same-length c = search needs

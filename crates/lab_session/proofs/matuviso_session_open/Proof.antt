@@ -29,7 +29,7 @@ returns c =
     record { tells = short few; writes = unwritten _ few; holds-cells = simp few; holds-memory = simp few }
 
 header-of-requires : tie.Need-header-of-requires
-header-of-requires c κs = long c .header-long
+header-of-requires c κs = search needs
 
 open-requires : tie.Need-open-requires
 open-requires c κs = search needs
@@ -37,7 +37,7 @@ open-requires c κs = search needs
 tell-opened-requires : tie.Need-tell-opened-requires
 tell-opened-requires c κs =
     let l = long (c .before .before .before .before .before .before .before .before .before .before .before) in
-    (l .place-long, l .found-long, l .settings-long, l .told-long)
+    (l .found-long, l .settings-long, l .told-long)
 
 same-length : tie.Need-same-length
 same-length c = search needs

@@ -32,7 +32,7 @@ returns c =
 session-of-requires : tie.Need-session-of-requires
 session-of-requires c κs =
     let l = long (c .before .before .before) in
-    (l .header-long, l .place-long, l .found-long, l .settings-long)
+    (l .place-long, l .found-long, l .settings-long)
 
 put-requires : tie.Need-put-requires
 put-requires c κs = search needs
@@ -40,7 +40,7 @@ put-requires c κs = search needs
 tell-put-requires : tie.Need-tell-put-requires
 tell-put-requires c κs =
     let l = long (c .before .before .before .before .before .before .before .before .before .before .before .before .before .before) in
-    (l .place-long, l .found-long, l .settings-long, l .told-long)
+    (l .found-long, l .settings-long, l .told-long)
 
 same-length : tie.Need-same-length
 same-length c = search needs

@@ -51,7 +51,7 @@ returns c =
     let waiting = asked .asked .given .0 .0 in
     let small : waiting .context < 2 ^ 63 = omega (arith, c .struct-known .given) in
     rw (asked .asked .given .1)
-    (given refl refl (simp (toZ-pos w64 small) (one (pos (waiting .context)) (s .args .told .now) (s .pre .3))), written .put-session .ensures)
+    (given refl refl (simp (toZ-pos w64 small) (one (pos (waiting .context)) (s .args .told .now) (s .pre .2))), written .put-session .ensures)
 
 same-length-5 : tie.Need-same-length-5
 same-length-5 c = search needs
