@@ -10,7 +10,7 @@ use crate::compare::neighbours::{ROWS_END, WIDEST};
 use crate::compare::tree::owed::DONE;
 use crate::compare::weighted::refused::{FAR, cut};
 use crate::compare::weighted::{needed, some_header};
-use crate::library::Session;
+use crate::library::{self, Opening, Session, Written};
 use crate::random::Random;
 use Call::*;
 use decoder::headers::modular::MOST;
@@ -23,6 +23,7 @@ pub fn all() {
     faults();
     limits();
     ways();
+    runs();
 }
 
 /// In the order that they are told in: lists too short to tell a session, then document 01's.
@@ -260,5 +261,68 @@ fn ways() {
             assert!(lived != 0 || matches!(owed, 11 | 13), "a closed session: {owed}");
         }
     }
+    drop(tally);
     println!("  of these, {closed} walks were refused and closed their sessions");
+}
+
+/// Whole channels in one call that end at a refusal: of the lists' lengths, of opening, of a pixel past the plane or of a
+/// walk over damaged records. What the pixels before it left stands.
+fn runs() {
+    let mut tally = Tally::new("run_channel, refused on its way");
+    let random = &mut Random::new(56);
+    for _ in 0..200_000 {
+        let mut owed = Lent::due(random, Open);
+        owed.told.truncate(5);
+        let residuals: Vec<i32> = (0..random.below(owed.plane.len() + 3)).map(|_| random.word()).collect();
+        let mut contexts = vec![UNTOUCHED as u32; residuals.len() + random.below(3)];
+        if random.once_in(2) {
+            (0..1 + random.below(2)).for_each(|_| damage_record(random, &mut owed.records));
+        }
+        if random.once_in(4) {
+            let fault = random.one_of(&[Header, Place, Memory, Cells]);
+            owed.spoil(random, Open, fault);
+        }
+        match random.below(16) {
+            0 => cut(random, &mut owed.session.header),
+            1 => contexts.truncate(random.below(contexts.len() + 1)),
+            _ => {}
+        }
+        let mut ours = owed.clone();
+        let before = owed.clone();
+        let mut told = contexts.clone();
+        let short = owed.session.header.len() < 11 || contexts.len() < residuals.len();
+        let status = if short { 8 } else { owed.run(&residuals, &mut told) };
+        let (width, weights, mask) = ours.opening;
+        let (header, numbers) = (&before.session.header, before.numbers);
+        let opening = Opening { width, header, weights, mask, numbers };
+        let Lent { plane, cells, memory, .. } = &mut ours;
+        let written = Written { plane, contexts: &mut contexts, cells, memory };
+        let number =
+            library::run_channel(opening, &before.references, &before.records, &residuals, written);
+        tally.refused += (status != 0) as u64;
+        tally.case(
+            (status, &owed.plane, &told, &owed.cells, &owed.memory),
+            (number, &ours.plane, &contexts, &ours.cells, &ours.memory),
+            || format!("residuals {residuals:?} on {before:?}"),
+        );
+    }
+}
+
+impl Lent {
+    /// Open, then ask and put in turn to the first refusal.
+    fn run(&mut self, residuals: &[i32], contexts: &mut [u32]) -> u32 {
+        let mut number = self.owed(Open);
+        for (residual, context) in residuals.iter().zip(contexts) {
+            for call in [Ask, Put] {
+                if number == 0 {
+                    self.residual = *residual;
+                    number = self.owed(call);
+                }
+                if number == 0 {
+                    *context = self.told[0] as u32;
+                }
+            }
+        }
+        number
+    }
 }
