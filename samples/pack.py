@@ -2,12 +2,14 @@
 """Draws a scan of an electrophoresis gel and packs it for the program `unpack`.
 
 It writes crates/unpack/stdin (the packed scan), crates/unpack/stdout (the picture that unpacking must give, a binary PGM of 16
-bits) and docs/gel.png, and nothing else. Each run writes the same bytes: the noise is counted, not drawn from the system.
+bits) and docs/gel.png. Every run draws the same scan: its noise is counted, and it is made of operations that round alike on
+every machine.
 
 The prediction is written anew, from document 01 and the Rust, in plain Python and by other means than the library's: errors are
 looked up by the pixel's place (the library keeps two halves of memory), and the tree is walked node by node (the library
 flattens it). So a picture that comes back whole is a test of both.
 """
+import math
 import os
 import struct
 import zlib
@@ -34,16 +36,22 @@ class Noise:
 
 
 def bump(distance, width):
-    """1 at the middle, near 0 some widths away. No exp: basic operations round alike everywhere."""
-    return 1 / (1 + (distance / width) ** 2) ** 2
+    """1 at the middle, near 0 some widths away."""
+    far = distance / width
+    down = 1 + far * far
+    return 1 / (down * down)
 
 
 def bands_of(lane):
     """Places down the lane and strengths. Lane 0 is the ladder."""
     if lane == 0:
         return [(40 + 11 * k + k * k, 21000 - 600 * k) for k in range(15)]
-    pick = Noise(1000 + lane)
-    return [(30 + 340 * pick.unit(), 3000 + 52000 * pick.unit() ** 3) for _ in range(3 + lane % 5)]
+    pick = Noise(lane * 2654435761)
+    bands = []
+    for _ in range(3 + lane % 5):
+        place, strength = pick.unit(), pick.unit()
+        bands.append((30 + 340 * place, 3000 + 52000 * strength * strength * strength))
+    return bands
 
 
 def draw():
@@ -56,12 +64,12 @@ def draw():
             for middle, bands in lanes:
                 across = x - middle
                 if -18 <= across < 18:
-                    side = (across / 13) ** 2
+                    side = across * across / 169
                     body = 1 / (1 + side * side * side)
                     light += 700 * body
                     for place, strength in bands:
                         light += strength * body * bump(y - place - 2 * side, 3.5)
-            light += (20 + 0.8 * light ** 0.5) * noise.bell()
+            light += (20 + 0.8 * math.sqrt(light)) * noise.bell()
             plane.append(min(65535, max(0, int(light))))
     return plane
 

@@ -35,7 +35,7 @@ fn headers() {
     lent(calls::ranged(session), 4, 0, 6, 40, 16);
 }
 
-// Rows that are whole, and a place inside them; width and row at the ends of their ranges.
+// Rows that are whole, and a place inside them.
 fn places() {
     lent(calls::at(2, 1, 1, false, 0), 4, 0, 6, 0, 16);
     lent(calls::at(2, 1, 1, false, 0), 5, 0, 6, 0, 16);

@@ -166,7 +166,7 @@ fn write_rows(form: Form, width: usize, rows: usize, plane: &[i32]) -> bool {
     }
 }
 
-// So many words of the plane, and for a picture the lines that promise all rows.
+// The finished rows; for a picture after the lines that promise all of them.
 pub fn write(form: Form, width: usize, rows: usize, done: usize, plane: &[i32])
     requires { ⌜ done * width ≤ length (now plane) ⌝ }
 {

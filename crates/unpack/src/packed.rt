@@ -1,5 +1,7 @@
 // The seventeen words before the nodes.
 ghost use mathlib.Core.Path.{_≡_};
+ghost use Prim.Native.Nat.{_≤_};
+ghost use lib.ListN.{length};
 ghost use Rattle.unpack.specs.Room.{hasRoom};
 use crate::input;
 use blend::WeightedHeader;
@@ -23,7 +25,9 @@ pub enum ReadPacked {
     Weights(u32),
 }
 
-fn header_of(words: [i32; 17]) -> WeightedHeader {
+fn header_of(words: &[i32]) -> WeightedHeader
+    requires { ⌜ 17 ≤ length (now words) ⌝ }
+{
     WeightedHeader {
         p1c: to_bits(words[2]),
         p2c: to_bits(words[3]),
@@ -39,7 +43,9 @@ fn header_of(words: [i32; 17]) -> WeightedHeader {
     }
 }
 
-fn packed_of(words: [i32; 17]) -> Packed {
+fn packed_of(words: &[i32]) -> Packed
+    requires { ⌜ 17 ≤ length (now words) ⌝ }
+{
     Packed {
         width: to_bits(words[0]) as usize,
         rows: to_bits(words[1]) as usize,
@@ -51,9 +57,10 @@ fn packed_of(words: [i32; 17]) -> Packed {
     }
 }
 
-pub fn read() -> ReadPacked {
-    let mut words = [0i32; 17];
-    let got = input::read(&mut words);
+fn read_into(words: &mut [i32]) -> ReadPacked
+    requires { ⌜ 17 ≤ length (now words) ⌝ }
+{
+    let got = input::read(words);
     if got < 17 {
         return ReadPacked::CutShort(got);
     }
@@ -62,6 +69,11 @@ pub fn read() -> ReadPacked {
         return ReadPacked::Weights(weights);
     }
     ReadPacked::Is(packed_of(words))
+}
+
+pub fn read() -> ReadPacked {
+    let mut words = [0i32; 17];
+    read_into(&mut words)
 }
 
 impl Packed {

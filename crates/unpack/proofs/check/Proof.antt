@@ -1,4 +1,4 @@
--- `check` is safe: `run` asks what was tested.
+-- `check` is safe: what `with_plane` asks was tested.
 use borrow.Author.Needs.{needs}
 use mathlib.Core.Path.{sym, _∙_}
 use Rattle.unpack.proofs.check.Statement.{statement}
@@ -7,8 +7,8 @@ use Rattle.unpack.proofs.check.Tie as tie
 fits-requires : tie.Need-fits-requires
 fits-requires c κs = search needs
 
-run-requires : tie.Need-run-requires
-run-requires c κs = sym (c .before .fits2 .ensures) ∙ c .if1 .taken
+with-plane-requires : tie.Need-with-plane-requires
+with-plane-requires c κs = sym (c .before .fits2 .ensures) ∙ c .if1 .taken
 
 too-large-requires : tie.Need-too-large-requires
 too-large-requires c κs = search needs
@@ -20,4 +20,5 @@ returns-2 : tie.Need-returns-2
 returns-2 c = search needs
 
 pub check-spec : {M : Type 1} → statement M
-check-spec = tie.close (tie.spec fits-requires run-requires too-large-requires returns returns-2)
+check-spec =
+    tie.close (tie.spec fits-requires with-plane-requires too-large-requires returns returns-2)
