@@ -157,7 +157,7 @@ fn in_domain(x: usize, y: usize, needed: usize) -> bool
     needed <= 4294967295
 }
 
-// Group after group.
+// Group after group, if any is used: the tree of a leaf alone uses none.
 fn fill_all(
     mask: u32,
     x: usize,
@@ -170,6 +170,9 @@ fn fill_all(
     requires { ⌜ (x < 65536) × (y < 2 ^ 30) × (16 ≤ length (now cells)) × Holds mask (length (now references)) (length (now cells)) ⌝ }
     ensures { λ _. ⌜ now (cells .exit) ≡ filledCells mask x y «data» «wp_property» (now (references .entry)) (now (cells .entry)) ⌝ }
 {
+    if mask == 0 {
+        return;
+    }
     fill_position(mask, x, y, cells);
     fill_neighbours(mask, data, cells);
     fill_gradient(mask, data, cells);

@@ -51,12 +51,13 @@ mod checks;
 mod weights;
 
 // The weighted state has the place of the next or pending pixel, also with weights off. A session lives until a walk is refused. Guess
-// and multiplier are the pending pixel's.
+// and multiplier are the pending pixel's. The two flags stand together for speed: LLVM copies a gap of three or seven bytes after a flag
+// through memory, at every pixel.
 pub struct Session {
     pub weighted: WeightedState,
     pub weights: bool,
-    pub mask: u32,
     pub live: bool,
+    pub mask: u32,
     pub guess: i64,
     pub multiplier: u32,
 }
@@ -102,6 +103,13 @@ fn row_from(plane: &[i32], start: usize, width: usize) -> &[i32]
     ensures { λ r. ⌜ now r ≡ take width (drop start (now (plane .entry))) ⌝ }
 {
     &plane[start..start + width]
+}
+
+// Where the row above the one from this word begins; the first stands for those above it.
+fn start_above(start: usize, width: usize) -> usize
+    ensures { λ r. ⌜ r ≡ start - width ⌝ }
+{
+    if width <= start { start - width } else { 0 }
 }
 
 impl Session {
@@ -151,8 +159,8 @@ impl Session {
         let x = weighted.x;
         let y = weighted.y;
         let start = y * width;
-        let one_up = if 1 <= y { start - width } else { 0 };
-        let two_up = if 2 <= y { one_up - width } else { 0 };
+        let one_up = start_above(start, width);
+        let two_up = start_above(one_up, width);
         get_rows(
             row_from(plane, start, width),
             row_from(plane, one_up, width),

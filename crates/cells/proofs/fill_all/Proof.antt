@@ -6,6 +6,10 @@ use Rattle.cells.specs.Cells.{neighboured, graded, contexted, weighed, r
 use Rattle.cells.proofs.fill_all.Statement.{statement}
 use Rattle.cells.proofs.fill_all.Tie as tie
 
+-- no group is used by mask 0
+returns : tie.Need-returns
+returns c = rw (c .if1 .taken)
+
 fill-position-requires : tie.Need-fill-position-requires
 fill-position-requires c κs = search needs
 
@@ -27,10 +31,10 @@ fill-references-requires c κs = search needs
 same-length : tie.Need-same-length
 same-length c = search needs
 
-returns : tie.Need-returns
-returns c =
-    let s = c .before .before .before .before .before .before .before .before .before .before .before .before .before .before .before .before .before .before .args in
-    let weighted = simp (toZ-ofZ (c .before .before .before .before .before .before .before .before .before .before .before .before .before .before .before .before .before .before .fits .wp-property)) at (c .before .before .before .before .fill-weighted .ensures) in
+returns-2 : tie.Need-returns-2
+returns-2 c =
+    let s = c .before .before .before .before .before .before .before .before .before .before .before .before .before .before .before .before .before .before .before .args in
+    let weighted = simp (toZ-ofZ (c .before .before .before .before .before .before .before .before .before .before .before .before .before .before .before .before .before .before .before .fits .wp-property)) at (c .before .before .before .before .fill-weighted .ensures) in
     c .before .fill-references .ensures
     ∙ ap (referred (s .mask) (s .references .now))
     (weighted
@@ -45,6 +49,7 @@ pub fill-all-spec : {M : Type 1} → statement M
 fill-all-spec =
     tie.close
     (tie.spec
+    returns
     fill-position-requires
     fill-neighbours-requires
     fill-gradient-requires
@@ -52,4 +57,4 @@ fill-all-spec =
     fill-weighted-requires
     fill-references-requires
     same-length
-    returns)
+    returns-2)
