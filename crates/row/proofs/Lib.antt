@@ -1,0 +1,2 @@
+pub mod Granted
+mod Steps
