@@ -77,7 +77,7 @@ module _
     tree : Tree words
     tree = demand.sound accepted some
 
-    sound : Sound t records plane cells memory rows
+    pub sound : Sound t records plane cells memory rows
     sound =
         let whole = counted-records words (nodes words) (tree .shaped) (tree .some) cells covers (fetched [] [] [] 0) (pos 0) (tree .few) offsets in
         record { arguments = arguments; count = recordCount words (nodes words); counts = ap counted records-are ∙ whole; some = omega arith }

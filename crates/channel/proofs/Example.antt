@@ -16,6 +16,7 @@ use Rattle.refusal.specs.Paper.{gives}
 use Rattle.walk.specs.Walk.{walkOf, walkFrom, stepOf}
 use Rattle.channel.specs.Calls.{Sound}
 use Rattle.channel.specs.Channel.{Told, scan}
+use Rattle.channel.specs.Rows.{Packed}
 
 -- ---- width 1, weights off, one split of property 8 at 0, residuals 5 5 5: contexts 1 0 1
 
@@ -85,3 +86,8 @@ weighed-sound =
       counts = refl;
       some = omega arith;
     }
+
+-- no reference cells are packed too
+weighed-packed : (y : ℕ) → Packed weighed y []
+unfolding weighed
+weighed-packed y = record { each = 0; long = refl; part = λ i below. refl }

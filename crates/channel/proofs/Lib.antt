@@ -1,7 +1,11 @@
 pub mod Accepted
 pub mod Example
 pub mod Follows
+pub mod Halts
 pub mod Lengths
 pub mod Neighbours
+pub mod RowCalls
+pub mod RowPixel
+pub mod Rows
 pub mod Standing
 pub mod Turns

@@ -68,7 +68,7 @@ module _ (t : Told) (records plane cells : List ℤ) (memory : List ℕ) (rows :
     pub laid : Laid t (t .weights) k (s .past) (s .memory)
     pub errors : (j : ℕ) → IsWord (getD (s .past) j none)
 
-  some-columns : 0 < t .width
+  pub some-columns : 0 < t .width
   some-columns = leb-true 1 (t .width) (and-left (leb 1 (t .width)) (leb (t .width) 65536) (sound .arguments .wide))
 
   -- ---- the place of pixel k
@@ -83,7 +83,7 @@ module _ (t : Told) (records plane cells : List ℤ) (memory : List ℕ) (rows :
     pub in-row : x < t .width
     in-row = mod-lt k some-columns
 
-    is-pixel : (size : ℕ) → size ≡ length plane → (isRow size (t .width) y && ltb x (t .width)) ≡ true
+    pub is-pixel : (size : ℕ) → size ≡ length plane → (isRow size (t .width) y && ltb x (t .width)) ≡ true
     is-pixel size same =
         let whole : size ≡ rows * t .width + 0 = omega (arith, sound .arguments .whole) in
         let row : y < rows = div-lt-iff-lt-mul some-columns .1 (omega (arith, sound .arguments .whole)) in

@@ -1,2 +1,3 @@
 pub mod Channel
 pub mod Calls
+pub mod Rows
