@@ -133,7 +133,22 @@ unsafe extern "C" {
         plane: *mut i32, plane_len: usize, memory: *mut u32, memory_len: usize,
         told: *mut i64, told_len: usize,
     ) -> u32;
+    fn matuviso_session_row(
+        header: *const u32, header_len: usize, place: *mut u64, place_len: usize,
+        found: *mut i64, found_len: usize, settings: *mut u32, settings_len: usize,
+        residuals: *const i32, residuals_len: usize, references: *const i32, references_len: usize,
+        records: *const i32, records_len: usize, plane: *mut i32, plane_len: usize,
+        contexts: *mut u32, contexts_len: usize, cells: *mut i32, cells_len: usize,
+        memory: *mut u32, memory_len: usize, told: *mut i64, told_len: usize,
+    ) -> u32;
     fn matuviso_run_channel(
+        width: usize, header: *const u32, header_len: usize, weights: bool, mask: u32,
+        channel: i32, stream: i32, references: *const i32, references_len: usize,
+        records: *const i32, records_len: usize, residuals: *const i32, residuals_len: usize,
+        plane: *mut i32, plane_len: usize, contexts: *mut u32, contexts_len: usize,
+        cells: *mut i32, cells_len: usize, memory: *mut u32, memory_len: usize,
+    ) -> u32;
+    fn matuviso_run_rows(
         width: usize, header: *const u32, header_len: usize, weights: bool, mask: u32,
         channel: i32, stream: i32, references: *const i32, references_len: usize,
         records: *const i32, records_len: usize, residuals: *const i32, residuals_len: usize,
@@ -465,12 +480,32 @@ pub fn session_put(
     }
 }
 
-/// What a channel writes.
+/// What a channel or a row writes.
 pub struct Written<'a> {
     pub plane: &'a mut [i32],
     pub contexts: &'a mut [u32],
     pub cells: &'a mut [i32],
     pub memory: &'a mut [u32],
+}
+
+/// Where refused, word 5 of `told` says how many pixels were put.
+#[inline(always)]
+pub fn session_row(
+    session: &mut Session, residuals: &[i32], references: &[i32], records: &[i32], written: Written,
+    told: &mut [i64],
+) -> u32 {
+    let Session { header, place, found, settings } = session;
+    let Written { plane, contexts, cells, memory } = written;
+    unsafe {
+        matuviso_session_row(
+            header.as_ptr(), header.len(), place.as_mut_ptr(), place.len(),
+            found.as_mut_ptr(), found.len(), settings.as_mut_ptr(), settings.len(),
+            residuals.as_ptr(), residuals.len(), references.as_ptr(), references.len(),
+            records.as_ptr(), records.len(), plane.as_mut_ptr(), plane.len(),
+            contexts.as_mut_ptr(), contexts.len(), cells.as_mut_ptr(), cells.len(),
+            memory.as_mut_ptr(), memory.len(), told.as_mut_ptr(), told.len(),
+        )
+    }
 }
 
 #[inline(always)]
@@ -481,6 +516,24 @@ pub fn run_channel(
     let Written { plane, contexts, cells, memory } = written;
     unsafe {
         matuviso_run_channel(
+            width, header.as_ptr(), header.len(), weights, mask, channel, stream,
+            references.as_ptr(), references.len(), records.as_ptr(), records.len(),
+            residuals.as_ptr(), residuals.len(), plane.as_mut_ptr(), plane.len(),
+            contexts.as_mut_ptr(), contexts.len(), cells.as_mut_ptr(), cells.len(),
+            memory.as_mut_ptr(), memory.len(),
+        )
+    }
+}
+
+/// A row in one call, the references for each; they lie packed.
+#[inline(always)]
+pub fn run_rows(
+    opening: Opening, references: &[i32], records: &[i32], residuals: &[i32], written: Written,
+) -> u32 {
+    let Opening { width, header, weights, mask, numbers: [channel, stream] } = opening;
+    let Written { plane, contexts, cells, memory } = written;
+    unsafe {
+        matuviso_run_rows(
             width, header.as_ptr(), header.len(), weights, mask, channel, stream,
             references.as_ptr(), references.len(), records.as_ptr(), records.len(),
             residuals.as_ptr(), residuals.len(), plane.as_mut_ptr(), plane.len(),

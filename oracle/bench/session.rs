@@ -25,7 +25,15 @@ pub fn all() {
         let on = if weights { "on" } else { "off" };
         Packed::of(&whole, nodes, weights).time(&format!("{nodes} nodes, weights {on}"));
     }
-    println!("the same in rows of other widths, and the first rows alone; 15 nodes, weights on");
+    println!(
+        "run_rows, the same by unpack_row, a call for each row, against the same loop; times of a pixel"
+    );
+    for (nodes, weights) in [1, 15, 325].into_iter().flat_map(|nodes| [(nodes, true), (nodes, false)]) {
+        let on = if weights { "on" } else { "off" };
+        let packed = Packed::of(&whole, nodes, weights);
+        packed.time_by(library::run_rows, &format!("by rows: {nodes} nodes, weights {on}"));
+    }
+    println!("run_channel in rows of other widths, and the first rows alone; 15 nodes, weights on");
     for width in [64, 16_384] {
         Packed::of(&laid_out(&gel, width), 15, true)
             .time(&format!("width {width}, {} rows", PIXELS / width));
@@ -64,6 +72,9 @@ impl Packing {
         channel
     }
 }
+
+/// The library's function for a whole channel.
+type Run = fn(Opening, &[i32], &[i32], &[i32], Written) -> u32;
 
 /// What an image packs to, by a tree that is fitted to its pixels.
 struct Packed {
@@ -109,6 +120,10 @@ impl Packed {
     }
 
     fn time(&self, what: &str) {
+        self.time_by(library::run_channel, what);
+    }
+
+    fn time_by(&self, run: Run, what: &str) {
         let Packing { size: (width, _), weights, mask, flat, .. } = &self.packing;
         let (pixels, records) = (self.residuals.len(), flat.words());
         let opening =
@@ -120,7 +135,7 @@ impl Packed {
             let (plane, contexts) = (&mut ours.0[..], &mut ours.1[..]);
             let written = Written { plane, contexts, cells: &mut cells, memory: &mut memory };
             let (opening, residuals) = (black_box(opening), black_box(&self.residuals));
-            black_box(library::run_channel(opening, &[], black_box(&records), residuals, written))
+            black_box(run(opening, &[], black_box(&records), residuals, written))
         };
         let mut rust = || black_box(rust_run_channel(black_box(self), &mut theirs.0, &mut theirs.1));
         let (status, channel) = (library(), rust());

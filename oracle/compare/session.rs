@@ -2,6 +2,7 @@
 
 mod channel;
 mod refused;
+mod rows;
 mod rules;
 
 use super::Tally;
@@ -27,6 +28,7 @@ pub fn all() {
     sizes();
     widest();
     whole();
+    rows::all();
     refused::all();
 }
 

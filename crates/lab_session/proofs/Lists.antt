@@ -1,4 +1,4 @@
--- Lists that are long enough and lists that are not, stores in a row as one list, and the lists of a session afterwards.
+-- Lists that are long enough and lists that are not, stores in a row as one list, and the lists of a session and of a row's end afterwards.
 use borrow.Author.Tests.{leb-true}
 use lib.Dec.{leb}
 use lib.IntN.{ℤ}
@@ -10,9 +10,10 @@ use native.Mathlib.Omega.{arith}
 use Prim.Native.Nat.{ℕ, _≤_}
 use Rattle.integer.proofs.Tests.{and-left, and-right, was-true}
 use Rattle.refusal.specs.Paper.{Outcome}
+use Rattle.row.specs.Row.{Ended}
 use Rattle.session.specs.declared.Session.{Session}
 use Rattle.weighted.specs.State.{test}
-use Rattle.lab_session.specs.Told.{tellSession, Written}
+use Rattle.lab_session.specs.Told.{tellSession, EndTold, Written}
 
 -- ---- lengths
 
@@ -68,3 +69,13 @@ module _ {place : List ℕ} {found : List ℤ} {settings : List ℕ} where
     holds-found = simp (e, sym is) (w .holds-found);
     holds-settings = simp (e, sym is) (w .holds-settings);
   }
+
+-- ---- what is told of a row's end
+
+module _ {e : Ended} {w : List ℤ} where
+  pub end-short : {long : Bool} → long ≡ false → EndTold long e w 8 w
+  end-short f = record { answers = simp f; holds = simp f }
+
+  -- told of an end that the library promises to be this one
+  pub end-told : {long : Bool} {said : Ended} {r : ℕ} {w′ : List ℤ} → long ≡ true → said ≡ e → EndTold true said w r w′ → EndTold long e w r w′
+  end-told t is told = record { answers = simp (t, sym is) (told .answers); holds = simp (t, sym is) (told .holds) }

@@ -7,13 +7,14 @@ use mathlib.Core.Path.{_≡_}
 use Prim.Native.Nat.{ℕ}
 use lib.Dec.{leb, eqb}
 use lib.IntN.{ℤ, pos}
-use lib.ListN.{length, getD, drop}
+use lib.ListN.{length, getD, set, drop}
 use Rattle.integer.specs.Order.{if}
 use Rattle.lab_weighted.specs.Told.{headerOf, stateOf, placed, after}
-use Rattle.refusal.specs.Paper.{Outcome, gives, one-value}
+use Rattle.refusal.specs.Paper.{Outcome, gives, refuses, one-value}
+use Rattle.row.specs.Row.{Ended, all, halted, Row, unpacks}
 use Rattle.session.specs.Session.{Asking, Opening, Putting, asks, opens, puts}
 use Rattle.session.specs.declared.Session.{Session}
-use Rattle.told.specs.Told.{Tells, nothing}
+use Rattle.told.specs.Told.{Tells, begun, doneOr, nothing, telling}
 use Rattle.weighted.specs.State.{test}
 
 -- ---- a session as lists
@@ -54,6 +55,25 @@ contextWords context = pos context ∷ []
 abbrev pub noWords : Session → List ℤ
 noWords s = []
 
+-- ---- the end of a row
+
+abbrev pub endSays : Ended → Outcome Unit
+endSays (all s) = gives tt
+endSays (halted pixels number details s) = refuses number details
+
+abbrev pub endSession : Ended → Session
+endSession (all s) = s
+endSession (halted pixels number details s) = s
+
+-- past the five words that a refusal may have, how many pixels were put before it
+abbrev pub countPut : Ended → List ℤ → List ℤ
+countPut (all s) words = words
+countPut (halted pixels number details s) words = set words 5 (pos pixels)
+
+pub record EndTold (long : Bool) (e : Ended) (words : List ℤ) (r : ℕ) (words′ : List ℤ) : Type 0 where
+  pub answers : r ≡ if long (doneOr (endSays e)) 8
+  pub holds : words′ ≡ if long (countPut e (begun (telling nothing (endSays e)) words)) words
+
 module _ (header place : List ℕ) (found : List ℤ) (settings : List ℕ) where
   abbrev pub long : List ℤ → Bool
   long told = tellSession (length header) (length place) (length found) (length settings) (length told)
@@ -91,7 +111,27 @@ module _ (header place : List ℕ) (found : List ℤ) (settings : List ℕ) wher
       pub holds-plane : plane′ ≡ if (long told) (put .plane) plane
       pub holds-memory : m′ ≡ if (long told) (put .memory) m
 
+  -- ---- a row: as put, and room for the count
+
+  module _ (residuals references records plane : List ℤ) (contexts : List ℕ) (cells : List ℤ) (m : List ℕ) where
+    abbrev pub row : Row
+    row = unpacks (sessionOf header place found settings) residuals references records plane contexts cells m
+
+    abbrev pub longer : List ℤ → Bool
+    longer told = leb 6 (length told) && long told
+
+    pub record RowTold (told : List ℤ) (r : ℕ) (place′ : List ℕ) (found′ : List ℤ) (settings′ : List ℕ) (plane′ : List ℤ) (contexts′ : List ℕ) (cells′ : List ℤ) (m′ : List ℕ) (told′ : List ℤ) : Type 0 where
+      pub tells : EndTold (longer told) (row .ended) told r told′
+      pub writes : Written (test (longer told) 8 0 (gives (endSession (row .ended)))) place found settings place′ found′ settings′
+      pub holds-plane : plane′ ≡ if (longer told) (row .plane) plane
+      pub holds-contexts : contexts′ ≡ if (longer told) (row .contexts) contexts
+      pub holds-cells : cells′ ≡ if (longer told) (row .cells) cells
+      pub holds-memory : m′ ≡ if (longer told) (row .memory) m
+
 -- ---- determinacy
+
+pub end-determined : {long : Bool} {e : Ended} {words : List ℤ} {r s : ℕ} {a b : List ℤ} → EndTold long e words r a → EndTold long e words s b → (r ≡ s) × (a ≡ b)
+end-determined p q = (one-value (p .answers) (q .answers), one-value (p .holds) (q .holds))
 
 pub written-determined : {o : Outcome Session} {place : List ℕ} {found : List ℤ} {settings place′ place″ : List ℕ} {found′ found″ : List ℤ} {settings′ settings″ : List ℕ}
     → Written o place found settings place′ found′ settings′ → Written o place found settings place″ found″ settings″

@@ -1,14 +1,15 @@
 // What the oracle calls from Rust (../../oracle): a session behind C functions. No part of what a board links. A session is told
 // as four lists: its header, its place and what was found as lab_weighted tells a weighted state, the guess after the latter, and
 // four settings (whether weights are on, the mask, whether it lives, the multiplier). An answer of 0 says done, another is a
-// refusal's number; its details are then the first words of `told`, where there must be room for five. A list that is too short
-// is 8, before all else, and nothing is written.
+// refusal's number; its details are then the first words of `told`, where there must be room for five, and for a row, which tells
+// how many of its pixels were put as the sixth, for six. A list that is too short is 8, before all else, and nothing is written.
 ghost use mathlib.Core.Bool.{true};
 ghost use mathlib.Core.Path.{_≡_};
 ghost use lib.ListN.{length};
 ghost use Prim.Native.Nat.{_≤_};
 ghost use Rattle.integer.specs.Order.{if};
 ghost use Rattle.refusal.specs.Paper.{gives};
+ghost use Rattle.row.specs.Row.{said};
 ghost use Rattle.session.specs.Session.{
   saidAsked,
   saidOpened,
@@ -19,10 +20,13 @@ ghost use Rattle.session.specs.Session.{
 ghost use Rattle.told.specs.Told.{Tells, nothing};
 ghost use Rattle.lab_session.specs.Told.{
   AskTold,
+  EndTold,
   OpenTold,
   PutTold,
+  RowTold,
   Written,
   contextWords,
+  endSession,
   foundPut,
   noWords,
   sessionOf,
@@ -33,6 +37,8 @@ use lab_weighted::found_of;
 use lab_weighted::header_of;
 use lab_weighted::put_found;
 use lab_weighted::put_place;
+use row::RowAnswer;
+use row::unpack_row;
 use session::AskAnswer;
 use session::OpenAnswer;
 use session::PutAnswer;
@@ -275,4 +281,75 @@ pub extern "C" fn matuviso_session_put(
     let session = session_of(header, place, found, settings);
     let put = session.put(residual, plane, memory);
     tell_put(put, place, found, settings, told)
+}
+
+fn tell_row(
+    row: RowAnswer,
+    place: &mut [u64],
+    found: &mut [i64],
+    settings: &mut [u32],
+    told: &mut [i64],
+) -> u32
+    requires { ⌜ (6 ≤ length (now found)) × (4 ≤ length (now settings)) × (6 ≤ length (now told)) ⌝ }
+    ensures { λ r. ⌜ EndTold true (said row) (now (told .entry)) r (now (told .exit)) ⌝ }
+    ensures { λ _. ⌜ Written (gives (endSession (said row))) (now (place .entry)) (now (found .entry)) (now (settings .entry)) (now (place .exit)) (now (found .exit)) (now (settings .exit)) ⌝ }
+{
+    match row {
+        RowAnswer::Done(next) => {
+            put_session(next, place, found, settings);
+            0
+        }
+        RowAnswer::Refused(halted) => {
+            let refusal = halted.refusal;
+            let pixels = halted.pixels;
+            put_session(halted.session, place, found, settings);
+            let number = tell(refusal, told);
+            told[5] = pixels as i64;
+            number
+        }
+    }
+}
+
+// A row from its residuals and its packed reference cells, and the session as it is then.
+#[no_mangle]
+pub extern "C" fn matuviso_session_row(
+    header: &[u32],
+    place: &mut [u64],
+    found: &mut [i64],
+    settings: &mut [u32],
+    residuals: &[i32],
+    references: &[i32],
+    records: &[i32],
+    plane: &mut [i32],
+    contexts: &mut [u32],
+    cells: &mut [i32],
+    memory: &mut [u32],
+    told: &mut [i64],
+) -> u32
+    ensures { λ r. ⌜ RowTold (now (header .entry)) (now (place .entry)) (now (found .entry)) (now (settings .entry)) (now (residuals .entry)) (now (references .entry)) (now (records .entry)) (now (plane .entry)) (now (contexts .entry)) (now (cells .entry)) (now (memory .entry)) (now (told .entry)) r (now (place .exit)) (now (found .exit)) (now (settings .exit)) (now (plane .exit)) (now (contexts .exit)) (now (cells .exit)) (now (memory .exit)) (now (told .exit)) ⌝ }
+{
+    if told.len() < 6 {
+        return 8;
+    }
+    if !tell_session(
+        header.len(),
+        place.len(),
+        found.len(),
+        settings.len(),
+        told.len(),
+    ) {
+        return 8;
+    }
+    let session = session_of(header, place, found, settings);
+    let row = unpack_row(
+        session,
+        residuals,
+        references,
+        records,
+        plane,
+        contexts,
+        cells,
+        memory,
+    );
+    tell_row(row, place, found, settings, told)
 }

@@ -1,5 +1,7 @@
 //! What is refused, against document 01's rules: sets of faults on any session, and sessions with faults on their way.
 
+mod rows;
+
 use super::rules::{Call, Lent};
 use super::{MARGIN, UNTOUCHED};
 use crate::compare::Tally;
@@ -24,6 +26,7 @@ pub fn all() {
     limits();
     ways();
     runs();
+    rows::all();
 }
 
 /// In the order that they are told in: lists too short to tell a session, then document 01's.
@@ -57,19 +60,25 @@ impl Call {
 /// Cells that the records of `some_records` test.
 const CELLS: usize = 24;
 
+fn some_leaf(random: &mut Random) -> [i32; 6] {
+    let [multiplier, context, offset] = [(); 3].map(|_| random.word());
+    [-1, random.below(14) as i32, multiplier, 0, context, offset & 0xffff]
+}
+
 /// A leaf, or a split over four of them.
 fn some_records(random: &mut Random) -> Vec<i32> {
-    let leaf = |random: &mut Random| {
-        let [multiplier, context, offset] = [(); 3].map(|_| random.word());
-        [-1, random.below(14) as i32, multiplier, 0, context, offset & 0xffff]
-    };
     if random.once_in(2) {
-        return leaf(random).to_vec();
+        return some_leaf(random).to_vec();
     }
     let [a, b, c] = [(); 3].map(|_| random.below(CELLS) as i32);
     let [u, v, w] = [(); 3].map(|_| random.below(9) as i32 - 4);
     let split = [a, u, v, w, 1, b | c << 16];
-    [split, leaf(random), leaf(random), leaf(random), leaf(random)].concat()
+    split_over(random, split)
+}
+
+fn split_over(random: &mut Random, split: [i32; 6]) -> Vec<i32> {
+    let leaves = [(); 4].map(|_| some_leaf(random));
+    [split.to_vec(), leaves.concat()].concat()
 }
 
 impl Lent {

@@ -75,7 +75,7 @@ impl Lent {
         number
     }
 
-    fn header_in_range(&self) -> Passed {
+    pub fn header_in_range(&self) -> Passed {
         test(self.session.header.iter().zip(MOST).all(|(&value, most)| value <= most), 12, 0)
     }
 
@@ -115,13 +115,13 @@ impl Lent {
     }
 
     /// "A plane is packed rows of the width"; the pixel is one of it.
-    fn is_pixel(&self) -> Passed {
+    pub fn is_pixel(&self) -> Passed {
         let [width, x, y] = [0, 1, 2].map(|k| self.session.place[k] as usize);
         let packed = (1..=WIDEST).contains(&width) && self.plane.len() % width == 0;
         test(packed && x < width && y < ROWS_END && y < self.plane.len() / width, 11, 0)
     }
 
-    fn is_turn(&self, asked: bool) -> bool {
+    pub fn is_turn(&self, asked: bool) -> bool {
         self.session.settings[2] != 0 && (self.session.place[3] != 0) == asked
     }
 
