@@ -508,6 +508,9 @@ pub fn session_row(
     }
 }
 
+/// A whole channel in one call: references, records, residuals, and what is written.
+pub type Run = fn(Opening, &[i32], &[i32], &[i32], Written) -> u32;
+
 #[inline(always)]
 pub fn run_channel(
     opening: Opening, references: &[i32], records: &[i32], residuals: &[i32], written: Written,

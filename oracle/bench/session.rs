@@ -4,7 +4,7 @@ use super::flat::fitted;
 use super::weighted::laid_out;
 use super::{ROUNDS, SIDE, gel, pair, report};
 use crate::compare::tree::nodes_of;
-use crate::library::{self, Opening, Written};
+use crate::library::{self, Opening, Run, Written};
 use crate::random::Random;
 use decoder::frame::modular::tree::{Asked, Channel, FlatTree, private_used_property_mask};
 use decoder::headers::modular::{DEFAULTS, WeightedHeader};
@@ -72,9 +72,6 @@ impl Packing {
         channel
     }
 }
-
-/// The library's function for a whole channel.
-type Run = fn(Opening, &[i32], &[i32], &[i32], Written) -> u32;
 
 /// What an image packs to, by a tree that is fitted to its pixels.
 struct Packed {

@@ -10,7 +10,7 @@ use super::neighbours::WIDEST;
 use super::tree::owed::{DONE, LENT, told};
 use super::tree::{MARGIN, UNTOUCHED};
 use super::weighted::needed;
-use crate::library::{self, Session, Written};
+use crate::library::{self, Run, Session, Written};
 use crate::random::Random;
 use channel::Channel;
 use decoder::frame::modular::tree::Channel as Rust;
@@ -205,49 +205,57 @@ fn widest() {
     }
 }
 
-/// In one call, the same references for each pixel.
+/// Any size, the least and the widest among them.
+fn any_size(random: &mut Random) -> (usize, usize) {
+    match random.below(400) {
+        0 => (WIDEST - random.below(2), 1 + random.below(4)),
+        1..40 => (1 + random.below(9), 1 + random.below(12)),
+        _ => some_size(random),
+    }
+}
+
+/// A channel in one call, lent these references; the Rust takes those of the image for each row.
+fn in_one_call(tally: &mut Tally, channel: &Channel, run: Run, lent: &[i32], image: &Image<i32>) {
+    let &Channel { width, rows, .. } = channel;
+    let mut rust = channel.rust();
+    let pixels = width * rows;
+    let mut theirs = (vec![0; pixels], vec![0; pixels]);
+    for y in 0..rows {
+        let (plane, contexts) = (&mut theirs.0, &mut theirs.1);
+        rust.row(&channel.flat, image, plane, y, |asked| {
+            contexts[y * width + asked.x] = asked.result.context;
+            asked.unpacked(channel.residuals[y * width + asked.x])
+        });
+    }
+    theirs.1.extend([UNTOUCHED_WORD; MARGIN]);
+    let mut ours = (vec![UNTOUCHED; pixels], vec![UNTOUCHED_WORD; pixels + MARGIN]);
+    let mut cells = vec![UNTOUCHED; channel.cells];
+    let memory = if channel.weights { needed(width) } else { 0 };
+    let mut memory = vec![UNTOUCHED_WORD; memory + MARGIN];
+    let (plane, contexts) = (&mut ours.0[..], &mut ours.1[..]);
+    let written = Written { plane, contexts, cells: &mut cells, memory: &mut memory };
+    let status = run(channel.opening(), lent, &channel.records, &channel.residuals, written);
+    // The first context and value that differ, if any.
+    let k = (0..pixels + MARGIN).find(|&k| ours.0.get(k) != theirs.0.get(k) || ours.1[k] != theirs.1[k]);
+    let at = k.unwrap_or(0);
+    let seen = |(plane, contexts): &(Vec<i32>, Vec<u32>)| (k, plane.get(at).copied(), contexts[at]);
+    tally.cases += pixels as u64 - 1;
+    tally.case(
+        (0, seen(&theirs), &rust.cells, None),
+        (status, seen(&ours), &cells, memory_differs(&rust, &memory)),
+        || format!("{}, references {lent:?}, residuals {:?}", channel.inputs(), channel.residuals),
+    );
+}
+
+/// The same references for each pixel.
 fn whole() {
     let mut tally = Tally::new("run_channel, a channel in one call");
     let random = &mut Random::new(52);
     while tally.cases < 50_000_000 {
-        let size = match random.below(400) {
-            0 => (WIDEST - random.below(2), 1 + random.below(4)),
-            1..40 => (1 + random.below(9), 1 + random.below(12)),
-            _ => some_size(random),
-        };
+        let size = any_size(random);
         let channel = Channel::any(random, size, 25);
-        let &Channel { width, rows, references, .. } = &channel;
-        let row: Vec<i32> = (0..references).map(|_| random.word()).collect();
-        let image = Image::of((references, width), row.repeat(width));
-        let mut rust = channel.rust();
-        let pixels = width * rows;
-        let mut theirs = (vec![0; pixels], vec![0; pixels]);
-        for y in 0..rows {
-            let (plane, contexts) = (&mut theirs.0, &mut theirs.1);
-            rust.row(&channel.flat, &image, plane, y, |asked| {
-                contexts[y * width + asked.x] = asked.result.context;
-                asked.unpacked(channel.residuals[y * width + asked.x])
-            });
-        }
-        theirs.1.extend([UNTOUCHED_WORD; MARGIN]);
-        let mut ours = (vec![UNTOUCHED; pixels], vec![UNTOUCHED_WORD; pixels + MARGIN]);
-        let mut cells = vec![UNTOUCHED; channel.cells];
-        let memory = if channel.weights { needed(width) } else { 0 };
-        let mut memory = vec![UNTOUCHED_WORD; memory + MARGIN];
-        let (plane, contexts) = (&mut ours.0[..], &mut ours.1[..]);
-        let written = Written { plane, contexts, cells: &mut cells, memory: &mut memory };
-        let Channel { records, residuals, .. } = &channel;
-        let status = library::run_channel(channel.opening(), &row, records, residuals, written);
-        // The first context and value that differ, if any.
-        let k =
-            (0..pixels + MARGIN).find(|&k| ours.0.get(k) != theirs.0.get(k) || ours.1[k] != theirs.1[k]);
-        let at = k.unwrap_or(0);
-        let seen = |(plane, contexts): &(Vec<i32>, Vec<u32>)| (k, plane.get(at).copied(), contexts[at]);
-        tally.cases += pixels as u64 - 1;
-        tally.case(
-            (0, seen(&theirs), &rust.cells, None),
-            (status, seen(&ours), &cells, memory_differs(&rust, &memory)),
-            || format!("{}, references {row:?}, residuals {:?}", channel.inputs(), channel.residuals),
-        );
+        let row: Vec<i32> = (0..channel.references).map(|_| random.word()).collect();
+        let image = Image::of((channel.references, channel.width), row.repeat(channel.width));
+        in_one_call(&mut tally, &channel, library::run_channel, &row, &image);
     }
 }

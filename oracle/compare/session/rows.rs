@@ -1,12 +1,11 @@
 //! Request [1] of document 02, a row in one call: whole channels, against the Rust's plain loop and the library's single calls.
 
 use super::channel::Channel;
-use super::{Ours, UNTOUCHED_WORD, lists, memory_differs, some_size};
+use super::{Ours, UNTOUCHED_WORD, any_size, in_one_call, lists, some_size};
 use crate::compare::Tally;
 use crate::compare::neighbours::WIDEST;
 use crate::compare::tree::owed::{DONE, LENT};
 use crate::compare::tree::{MARGIN, UNTOUCHED};
-use crate::compare::weighted::needed;
 use crate::library::{self, Written};
 use crate::random::Random;
 use decoder::image::Image;
@@ -132,39 +131,11 @@ fn whole() {
     let mut tally = Tally::new("run_rows, a channel in one call");
     let random = &mut Random::new(60);
     while tally.cases < 20_000_000 {
-        let size = match random.below(400) {
-            0 => (WIDEST - random.below(2), 1 + random.below(4)),
-            1..40 => (1 + random.below(9), 1 + random.below(12)),
-            _ => some_size(random),
-        };
+        let size = any_size(random);
         let channel = Channel::any(random, size, 8);
-        let &Channel { width, rows, references, .. } = &channel;
-        let row: Vec<i32> = (0..references * width).map(|_| random.word()).collect();
-        let image = Image::of((references, width), row.clone());
-        let mut rust = channel.rust();
-        let pixels = width * rows;
-        let mut theirs = (vec![0; pixels], vec![0; pixels]);
-        for y in 0..rows {
-            let (plane, contexts) = (&mut theirs.0, &mut theirs.1);
-            rust.row(&channel.flat, &image, plane, y, |asked| {
-                contexts[y * width + asked.x] = asked.result.context;
-                asked.unpacked(channel.residuals[y * width + asked.x])
-            });
-        }
-        theirs.1.extend([UNTOUCHED_WORD; MARGIN]);
-        let mut ours = (vec![UNTOUCHED; pixels], vec![UNTOUCHED_WORD; pixels + MARGIN]);
-        let mut cells = vec![UNTOUCHED; channel.cells];
-        let memory = if channel.weights { needed(width) } else { 0 };
-        let mut memory = vec![UNTOUCHED_WORD; memory + MARGIN];
-        let (plane, contexts) = (&mut ours.0[..], &mut ours.1[..]);
-        let written = Written { plane, contexts, cells: &mut cells, memory: &mut memory };
-        let Channel { records, residuals, .. } = &channel;
-        let status = library::run_rows(channel.opening(), &row, records, residuals, written);
-        tally.cases += pixels as u64 - 1;
-        tally.case(
-            (0, true, &rust.cells, None),
-            (status, ours == theirs, &cells, memory_differs(&rust, &memory)),
-            || format!("{}, references {row:?}, residuals {:?}", channel.inputs(), channel.residuals),
-        );
+        let &Channel { width, references, .. } = &channel;
+        let packed: Vec<i32> = (0..references * width).map(|_| random.word()).collect();
+        let image = Image::of((references, width), packed.clone());
+        in_one_call(&mut tally, &channel, library::run_rows, &packed, &image);
     }
 }
