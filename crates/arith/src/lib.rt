@@ -1,4 +1,6 @@
 // Module 1: the division lookup, the highest set bit, and the weight of an error.
+#![tactic(auto)]
+
 ghost use Rattle.std.specs.Prelude.{◌≡◌, ◌≤◌};
 ghost use Rattle.integer.specs.Fill.{tabulate};
 ghost use Rattle.arith.specs.Weights.{
@@ -39,14 +41,14 @@ pub fn floor_log2_nonzero(x: u64) -> u32
     if zeros < 64 { 63 - zeros } else { 127 }
 }
 
-#[derive(Drop)]
+#[derive(Clone, Copy)]
 pub enum Weight {
     Is(u32),
     Refused(Refusal),
 }
 
 // A number for each of the four sub-predictors: its errors, their sums, its weight.
-#[derive(Drop)]
+#[derive(Clone, Copy)]
 pub struct Four {
     pub e0: u32,
     pub e1: u32,
@@ -54,7 +56,7 @@ pub struct Four {
     pub e3: u32,
 }
 
-#[derive(Drop)]
+#[derive(Clone, Copy)]
 pub enum Weights {
     Are(Four),
     Refused(Refusal),

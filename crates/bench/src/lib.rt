@@ -1,5 +1,7 @@
 // What the bench times from Rust (../../oracle): fetches and predictions of a whole row behind one C function. A crate of its
 // own, so that the fetch has one caller and is compiled into its loop, as it is in a program that unpacks a scan.
+#![tactic(auto)]
+
 ghost use Rattle.std.specs.Prelude.{◌≡◌, length, ◌≤◌};
 ghost use Rattle.integer.specs.Fill.{filled};
 ghost use Rattle.bench.specs.Guesses.{guess_at, GuessesRow};

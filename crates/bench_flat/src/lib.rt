@@ -1,5 +1,7 @@
 // What the bench times from Rust (../../oracle): both walks over many pixels behind one C function each. A crate of its own, so
 // that a walk has one caller and is compiled into its loop, as it is in a program that unpacks a scan.
+#![tactic(auto)]
+
 ghost use Rattle.std.specs.Prelude.{◌≡◌, length, ◌+◌, ◌*◌, ◌≤◌};
 ghost use Rattle.bench_flat.specs.Pixels.{guess_of, direct_at, flat_at, GuessesPixels};
 ghost use Rattle.integer.specs.Fill.{filled};

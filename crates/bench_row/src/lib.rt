@@ -1,5 +1,7 @@
 // What the bench times from Rust (../../oracle): a whole channel by rows behind one C function. A crate of its own, so that
 // `unpack_row`, ask and put have one caller each and are compiled into its loop, as they are in a program that unpacks a scan by rows.
+#![tactic(auto)]
+
 ghost use Rattle.std.specs.Prelude.{length, ◌*◌, ◌≤◌};
 ghost use Rattle.bench_row.specs.Run.{Ends, channel, rows_from};
 

@@ -1,5 +1,7 @@
 // What the bench times from Rust (../../oracle): the cells of a row of pixels behind one C function. A crate of its own, so
 // that the filling has one caller and is compiled into its loop, as it is in a program that unpacks a scan.
+#![tactic(auto)]
+
 ghost use Rattle.std.specs.Prelude.{◌≡◌, length, ◌+◌, ◌*◌, ◌≤◌};
 ghost use Rattle.bench_tree.specs.Row.{neighbours_of, FillsRow};
 

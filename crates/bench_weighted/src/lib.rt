@@ -1,5 +1,7 @@
 // What the bench times from Rust (../../oracle): ask and put of a whole plane behind one C function. A crate of its own, so
 // that each has one caller and is compiled into its loop.
+#![tactic(auto)]
+
 ghost use Rattle.std.specs.Prelude.{◌≡◌, leb, length, set, ◌+◌, ◌*◌, ◌^◌, ◌≤◌};
 ghost use Rattle.bench_weighted.specs.Weighed.{
   neighbours_of,

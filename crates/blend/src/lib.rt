@@ -1,5 +1,7 @@
 // Module 4, the arithmetic of one pixel: four sub-predictions, their weighted average, the property, and the errors that the
 // pixel's true value leaves. Predictions and true errors are in eighths. The crate `weighted` has the place and the memory.
+#![tactic(auto)]
+
 ghost use Rattle.std.specs.Prelude.{◌≡◌, true, ◌≤◌, ◌<◌, ◌^◌, ◌+ℤ◌, ◌-ℤ◌};
 ghost use Rattle.std.specs.Int.Signed.{mag};
 ghost use Rattle.integer.specs.Order.{magnitude};
@@ -37,7 +39,7 @@ use predict::neighbours::PredictionData;
 use refusal::Refusal;
 
 // The eleven values of the weighted header: p1c to p3ce are 0..31, w0 to w3 0..15.
-#[derive(Drop)]
+#[derive(Clone, Copy)]
 pub struct WeightedHeader {
     pub p1c: u32,
     pub p2c: u32,
@@ -53,7 +55,7 @@ pub struct WeightedHeader {
 }
 
 // The true errors of four neighbours: prediction less value, in eighths.
-#[derive(Drop)]
+#[derive(Clone, Copy)]
 pub struct TrueErrors {
     pub w: i32,
     pub n: i32,
@@ -62,7 +64,7 @@ pub struct TrueErrors {
 }
 
 // The four sub-predictions and what they blend to, in eighths.
-#[derive(Drop)]
+#[derive(Clone, Copy)]
 pub struct Found {
     pub p0: i64,
     pub p1: i64,
@@ -71,27 +73,27 @@ pub struct Found {
     pub pred: i64,
 }
 
-#[derive(Drop)]
+#[derive(Clone, Copy)]
 pub struct Prediction {
     pub found: Found,
     pub guess: i64,
     pub property: i32,
 }
 
-#[derive(Drop)]
+#[derive(Clone, Copy)]
 pub enum Predicted {
     Is(Prediction),
     Refused(Refusal),
 }
 
 // What a pixel's true value leaves: its true error, and the error of each sub-prediction.
-#[derive(Drop)]
+#[derive(Clone, Copy)]
 pub struct PixelErrors {
     pub error: i32,
     pub sub: Four,
 }
 
-#[derive(Drop)]
+#[derive(Clone, Copy)]
 pub enum Left {
     Is(PixelErrors),
     Refused(Refusal),

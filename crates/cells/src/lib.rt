@@ -1,4 +1,6 @@
 // The cells that a tree tests: filled for each pixel, by groups that a mask turns on.
+#![tactic(auto)]
+
 ghost use Rattle.std.specs.Prelude.{◌≡◌, ◌≤◌, ◌<◌, ◌^◌, length};
 ghost use Rattle.cells.specs.Cells.{
   positioned,
@@ -19,7 +21,7 @@ use integer::{clear, wrapping_abs, wrapping_add, wrapping_sub};
 use predict::neighbours::PredictionData;
 use refusal::Refusal;
 
-#[derive(Drop)]
+#[derive(Clone, Copy)]
 pub enum Filled {
     Done,
     Refused(Refusal),

@@ -6,14 +6,14 @@ use integer::{shift_right, wrapping_add, wrapping_sub};
 use refusal::Refusal;
 
 // A word of each plane.
-#[derive(Drop)]
+#[derive(Clone, Copy)]
 pub struct Triple {
     pub a: i32,
     pub b: i32,
     pub c: i32,
 }
 
-#[derive(Drop)]
+#[derive(Clone, Copy)]
 pub enum Restored {
     Done,
     Refused(Refusal),

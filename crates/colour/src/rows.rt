@@ -4,7 +4,7 @@ ghost use Rattle.colour.specs.Rows.{is_row, IsRow, row_outcome, said};
 
 use refusal::Refusal;
 
-#[derive(Drop)]
+#[derive(Clone, Copy)]
 pub enum RowCheck {
     There,
     Refused(Refusal),

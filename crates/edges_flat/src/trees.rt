@@ -88,7 +88,7 @@ pub fn some() -> PredictionData {
     }
 }
 
-fn res(res: PredictionResult) {
+fn result(res: PredictionResult) {
     print::text(b": ");
     print::signed(res.guess);
     print::named(b"multiplier", res.multiplier as u64);

@@ -14,7 +14,7 @@ pub enum LeafRead {
     Refused(Refusal),
 }
 
-#[derive(Drop)]
+#[derive(Clone, Copy)]
 pub enum SplitRead {
     Is(FlatSplit),
     Refused(Refusal),

@@ -1,4 +1,6 @@
 // Module 8, the flat walk: from record 0 down to a leaf. Each split record decides two levels of the tree.
+#![tactic(auto)]
+
 ghost use Rattle.std.specs.Prelude.{◌≡◌, ◌*◌, ◌≤◌, ◌<◌, length};
 ghost use Rattle.std.specs.Int.Signed.{lt_z};
 ghost use Rattle.flat.specs.FlatWalk.{
@@ -26,14 +28,14 @@ mod form;
 pub mod records;
 
 // Where the walk goes on from a split record.
-#[derive(Drop)]
+#[derive(Clone, Copy)]
 enum Next {
     At(usize),
     Refused(Refusal),
 }
 
 fn answer(leaf: FlatLeaf, data: PredictionData, wp_pred: i64, hops: u32) -> PredictionResult
-    ensures { «r» ≡ answer_of (as_leaf «leaf») «data» wp_pred hops }
+    ensures { result ≡ answer_of (as_leaf «leaf») «data» wp_pred hops }
 {
     let predictor = leaf.predictor;
     let guess = predictor.predict_one(data, wp_pred);

@@ -9,7 +9,7 @@ use predict::predictors::Predictor;
 use refusal::Refusal;
 
 // The four grandchildren lie from `first` on: left's left, left's right, right's left, right's right.
-#[derive(Drop)]
+#[derive(Clone, Copy)]
 pub struct FlatSplit {
     pub property: u32,
     pub value: i32,
@@ -20,7 +20,7 @@ pub struct FlatSplit {
     pub right_property: u32,
 }
 
-#[derive(Drop)]
+#[derive(Clone, Copy)]
 pub struct FlatLeaf {
     pub predictor: Predictor,
     pub multiplier: u32,
@@ -28,13 +28,13 @@ pub struct FlatLeaf {
     pub offset: i32,
 }
 
-#[derive(Drop)]
+#[derive(Clone, Copy)]
 pub enum Record {
     Split(FlatSplit),
     Leaf(FlatLeaf),
 }
 
-#[derive(Drop)]
+#[derive(Clone, Copy)]
 pub enum RecordRead {
     Is(Record),
     Refused(Refusal),

@@ -1,4 +1,6 @@
 // Module 7: flattening of decision trees into records that stand for two levels each.
+#![tactic(auto)]
+
 ghost use Rattle.std.specs.Prelude.{◌++◌, ◌≡◌, ◌*◌, ◌/◌, ◌≤◌, pos, length, drop};
 ghost use Rattle.integer.specs.Fill.{tabulate};
 ghost use Rattle.validation.specs.Verdict.{SoundList};
@@ -17,7 +19,7 @@ use refusal::Refusal;
 use ring::{Ring, put, take};
 use validation::{Verdict, check_shape};
 
-#[derive(Drop)]
+#[derive(Clone, Copy)]
 pub enum Flattened {
     Records(usize),
     Refused(Refusal),

@@ -16,7 +16,7 @@ use nodes::{Leaf, Node, NodeRead, Split, read_node};
 use predict::predictors::Predictor;
 
 // What a split's record says of a child, and the two places that are queued for it.
-#[derive(Drop)]
+#[derive(Clone, Copy)]
 pub struct Child {
     pub property: u32,
     pub value: i32,
@@ -25,7 +25,7 @@ pub struct Child {
 }
 
 fn predictor_number(predictor: Predictor) -> i32
-    ensures { «r» ≡ pos (predictor_number predictor) }
+    ensures { result ≡ pos (predictor_number predictor) }
 {
     match predictor {
         Predictor::Zero => 0,
@@ -64,7 +64,7 @@ fn write_leaf(leaf: Leaf, output: &mut [i32], at: usize)
 
 fn read_child(words: &[i32], place: u32) -> Child
     requires { 5 * place ≤ length words.now }
-    ensures { «r» ≡ child_of (node_at words.now place) place }
+    ensures { result ≡ child_of (node_at words.now place) place }
 {
     let at = 5 * (place as usize);
     let read = read_node(&words[at..], place);

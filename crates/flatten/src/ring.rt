@@ -5,13 +5,13 @@ ghost use Rattle.flatten.specs.Ring.{goes_round, Ready, Puts, Takes};
 use integer::to_bits;
 
 // Where the first queued place stands, and how many are queued: full and empty have the same two ends.
-#[derive(Drop)]
+#[derive(Clone, Copy)]
 pub struct Ring {
     pub first: usize,
     pub queued: usize,
 }
 
-#[derive(Drop)]
+#[derive(Clone, Copy)]
 pub struct Taken {
     pub ring: Ring,
     pub place: usize,

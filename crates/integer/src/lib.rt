@@ -1,5 +1,7 @@
 // 32-bit words: the low word of a 64-bit value, and wrapping operations. Each is total; its meaning is
 // `wrap`, the low 32 bits as signed, of the operation on whole numbers (specs/Word.antt).
+#![tactic(auto)]
+
 ghost use Rattle.std.specs.Prelude.{◌≡◌, ◌^◌, pos, ◌+ℤ◌, ◌-ℤ◌, length};
 ghost use Rattle.std.specs.Int.Signed.{shr_z};
 ghost use Rattle.integer.specs.Fill.{tabulate};

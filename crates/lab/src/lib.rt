@@ -1,5 +1,7 @@
 // What the oracle calls from Rust (../../oracle): the library's leaves behind C functions. No part of what a
 // board links. An answer of 0 says done, another is a refusal's number; a refusal writes nothing.
+#![tactic(auto)]
+
 ghost use Rattle.std.specs.Prelude.{◌≡◌, length, ◌≤◌};
 ghost use Rattle.arith.specs.Weights.{floor_log2, error_weight};
 ghost use Rattle.predict.specs.Neighbours.{neighbours};

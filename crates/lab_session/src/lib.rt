@@ -3,6 +3,8 @@
 // four settings (whether weights are on, the mask, whether it lives, the multiplier). An answer of 0 says done, another is a
 // refusal's number; its details are then the first words of `told`, where there must be room for five, and for a row, which tells
 // how many of its pixels were put as the sixth, for six. A list that is too short is 8, before all else, and nothing is written.
+#![tactic(auto)]
+
 ghost use Rattle.std.specs.Prelude.{true, ◌≡◌, length, ◌≤◌};
 ghost use Rattle.integer.specs.Order.{if};
 ghost use Rattle.refusal.specs.Paper.{gives};

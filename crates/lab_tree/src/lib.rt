@@ -1,6 +1,8 @@
 // What the oracle calls from Rust (../../oracle): the functions of trees and of cells behind C functions. No part of what a
 // board links. An answer of 0 says done, another is a refusal's number; its details are then the first words of `told`, where
 // there must be room for five. A list that is too short is 8, before all else, and nothing is written.
+#![tactic(auto)]
+
 ghost use Rattle.std.specs.Prelude.{◌≡◌, length, ◌≤◌, true};
 ghost use Rattle.cells.specs.Cells.{said};
 ghost use Rattle.validation.specs.Verdict.{said_verdict};

@@ -2,6 +2,8 @@
 // A state is told as three lists: its header (eleven values in the struct's order), its place (width, x, y, and whether an
 // ask waits for its put: 0 no, else yes), and the five values that an ask found. An answer of 0 says done, another is a
 // refusal's number, 8 first where a list is too short; a refusal writes nothing.
+#![tactic(auto)]
+
 ghost use Rattle.std.specs.Prelude.{◌≡◌, length, ◌≤◌};
 ghost use Rattle.integer.specs.Order.{if};
 ghost use Rattle.weighted.specs.Saved.{said_copied};

@@ -1,4 +1,6 @@
 // A node is five words: a split (property 0..255, value, left, right, 0) or a leaf (-1, predictor, offset, multiplier, id).
+#![tactic(auto)]
+
 ghost use Rattle.std.specs.Prelude.{◌≡◌, ◌≤◌, length};
 ghost use Rattle.nodes.specs.Nodes.{counted, leaf_of, node_of, said, said_count};
 
@@ -9,7 +11,7 @@ use refusal::Refusal;
 pub mod mask;
 
 // Left holds cell > value.
-#[derive(Drop)]
+#[derive(Clone, Copy)]
 pub struct Split {
     pub property: u32,
     pub value: i32,
@@ -17,7 +19,7 @@ pub struct Split {
     pub right: u32,
 }
 
-#[derive(Drop)]
+#[derive(Clone, Copy)]
 pub struct Leaf {
     pub predictor: Predictor,
     pub offset: i32,
@@ -25,19 +27,19 @@ pub struct Leaf {
     pub id: u32,
 }
 
-#[derive(Drop)]
+#[derive(Clone, Copy)]
 pub enum Node {
     Split(Split),
     Leaf(Leaf),
 }
 
-#[derive(Drop)]
+#[derive(Clone, Copy)]
 pub enum NodeRead {
     Is(Node),
     Refused(Refusal),
 }
 
-#[derive(Drop)]
+#[derive(Clone, Copy)]
 pub enum Counted {
     Nodes(usize),
     Refused(Refusal),

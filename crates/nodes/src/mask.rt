@@ -5,7 +5,7 @@ ghost use Rattle.nodes.specs.Mask.{bits_for, bits_of_node, mask_up_to, mask_of, 
 use crate::{Counted, Node, NodeRead, count_nodes, read_node};
 use refusal::Refusal;
 
-#[derive(Drop)]
+#[derive(Clone, Copy)]
 pub enum Masked {
     Is(u32),
     Refused(Refusal),

@@ -16,7 +16,7 @@ ghost use Rattle.predict.specs.Neighbours.{
 use refusal::Refusal;
 
 // In the order of the Rust; the standard's names are W, N, NN, NW, NE, WW, NEE.
-#[derive(Drop)]
+#[derive(Clone, Copy)]
 pub struct PredictionData {
     pub left: i32,
     pub top: i32,
@@ -27,7 +27,7 @@ pub struct PredictionData {
     pub toprightright: i32,
 }
 
-#[derive(Drop)]
+#[derive(Clone, Copy)]
 pub enum Neighbourhood {
     Is(PredictionData),
     Refused(Refusal),

@@ -7,7 +7,7 @@ ghost use Rattle.predict.specs.Predictors.{numbered, selected, gradient, average
 use crate::neighbours::PredictionData;
 use integer::widen;
 
-#[derive(Drop)]
+#[derive(Clone, Copy)]
 pub enum Predictor {
     Zero,
     West,
@@ -25,7 +25,7 @@ pub enum Predictor {
     AverageAll,
 }
 
-#[derive(Drop)]
+#[derive(Clone, Copy)]
 pub enum Numbered {
     Is(Predictor),
     NoSuch,

@@ -1,6 +1,8 @@
 // What the edge programs print with: numbers, refusals, neighbourhoods and planes, on standard output. No contract can say
 // which bytes a call of C's writes, so the functions have none: each is proved safe, and to end, for any arguments. What a
 // program wrote is compared with its file `stdout`. No function tells that a write failed; the comparison finds it.
+#![tactic(auto)]
+
 use predict::neighbours::PredictionData;
 use refusal::Refusal;
 

@@ -1,10 +1,12 @@
 // Why a call was refused: document 01's table, one case a number. The number and the details of each
 // case are `specs/Paper.antt`'s; every promise of the library speaks of a refusal through them.
+#![tactic(auto)]
+
 ghost use Rattle.std.specs.Prelude.{◌≡◌, pos, get_or};
 ghost use Rattle.refusal.specs.Paper.{number_of, details_of};
 
 // A split that leaves a side empty: its place, its test, and the range in which its property still lies.
-#[derive(Drop)]
+#[derive(Clone, Copy)]
 pub struct Side {
     pub place: u32,
     pub property: u32,
@@ -13,7 +15,7 @@ pub struct Side {
     pub high: i32,
 }
 
-#[derive(Drop)]
+#[derive(Clone, Copy)]
 pub enum Refusal {
     // 1: the word count is no multiple of the node or record size
     WordCount,

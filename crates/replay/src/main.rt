@@ -2,6 +2,8 @@
 // `oracle/run .. record` wrote to the file stdin (answers.rt says what a record holds). A line tells how many of each kind
 // were equal. The first record that differs, that the library refuses, that has no form or that is cut short ends the run,
 // and its number, from 0, is told. Only an input that was equal to its end has the last line `all equal`.
+#![tactic(auto)]
+
 mod answers;
 mod fillings;
 mod outcome;

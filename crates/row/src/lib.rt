@@ -1,4 +1,6 @@
 // Request [1] of document 02: a row of a session's channel in one call, ask and put of each pixel.
+#![tactic(auto)]
+
 ghost use Rattle.std.specs.Prelude.{length, ◌≡◌, ◌+◌, ◌*◌, ◌/◌, ◌≤◌, ◌<◌};
 ghost use Rattle.refusal.specs.Paper.{details_of, number_of};
 ghost use Rattle.row.specs.Row.{
@@ -20,20 +22,20 @@ use refusal::Refusal;
 use session::{AskAnswer, Kept, PutAnswer, Session};
 
 // A refusal, how many pixels of the row were put before it, and the session as the refused call left it.
-#[derive(Drop)]
+#[derive(Clone, Copy)]
 pub struct Halted {
     pub session: Session,
     pub pixels: u32,
     pub refusal: Refusal,
 }
 
-#[derive(Drop)]
+#[derive(Clone, Copy)]
 pub enum RowAnswer {
     Done(Session),
     Refused(Halted),
 }
 
-#[derive(Drop)]
+#[derive(Clone, Copy)]
 pub enum Check {
     Passed,
     Refused(Refusal),

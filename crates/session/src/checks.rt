@@ -21,7 +21,7 @@ use flat::records::count_records;
 use nodes::Counted;
 use refusal::Refusal;
 
-#[derive(Drop)]
+#[derive(Clone, Copy)]
 pub enum Check {
     Passed,
     Refused(Refusal),

@@ -1,4 +1,6 @@
 // Module 10: a channel, pixel after pixel. A session is a value that keeps its place; ask and put alternate in raster order.
+#![tactic(auto)]
+
 ghost use Rattle.std.specs.Prelude.{true, ◌≡◌, ◌+◌, ◌-◌, ◌≤◌, pos, ◌+ℤ◌, ◌*ℤ◌, length, take, drop};
 ghost use Rattle.cells.specs.Cells.{outcome};
 ghost use Rattle.colour.specs.Rows.{row_of};
@@ -35,7 +37,7 @@ mod weights;
 // The weighted state has the place of the next or pending pixel, also with weights off. A session lives until a walk is refused. Guess
 // and multiplier are the pending pixel's. The two flags stand together for speed: LLVM copies a gap of three or seven bytes after a flag
 // through memory, at every pixel.
-#[derive(Drop)]
+#[derive(Clone, Copy)]
 pub struct Session {
     pub weighted: WeightedState,
     pub weights: bool,
@@ -46,32 +48,32 @@ pub struct Session {
 }
 
 // A session that waits for the residual that was coded in this context.
-#[derive(Drop)]
+#[derive(Clone, Copy)]
 pub struct Waiting {
     pub session: Session,
     pub context: u32,
 }
 
 // A refusal, and the session as it was, or closed.
-#[derive(Drop)]
+#[derive(Clone, Copy)]
 pub struct Kept {
     pub session: Session,
     pub refusal: Refusal,
 }
 
-#[derive(Drop)]
+#[derive(Clone, Copy)]
 pub enum OpenAnswer {
     Is(Session),
     Refused(Refusal),
 }
 
-#[derive(Drop)]
+#[derive(Clone, Copy)]
 pub enum AskAnswer {
     Is(Waiting),
     Refused(Kept),
 }
 
-#[derive(Drop)]
+#[derive(Clone, Copy)]
 pub enum PutAnswer {
     Done(Session),
     Refused(Kept),
@@ -160,7 +162,7 @@ impl Session {
 
     // The session that waits for the put.
     fn waiting(self, answer: Answer, res: PredictionResult) -> Session
-        ensures { result ≡ waiting self answer «result» }
+        ensures { result ≡ waiting self answer res }
     {
         let weighted = answer.state;
         Session {

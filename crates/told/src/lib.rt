@@ -1,6 +1,8 @@
 // What C functions tell of an answer, and what they are given of a pixel, shared by those of trees and those of flat trees. An
 // answer of 0 says done, another is a refusal's number; its details are then the first words of `told`, where there must be
 // room for five.
+#![tactic(auto)]
+
 ghost use Rattle.std.specs.Prelude.{◌≡◌, length, ◌≤◌};
 ghost use Rattle.refusal.specs.Paper.{number_of, details_of};
 ghost use Rattle.told.specs.Told.{begun, side_of, data_of};

@@ -5,6 +5,8 @@
 // What is wrong is told in words on standard error, which is empty where nothing is. A Rattle program has no exit status, so nothing
 // is made up to look whole either: finished rows are written and no others, and a picture that lacks rows is shorter than its first
 // lines promise, so that whoever opens it is told too.
+#![tactic(auto)]
+
 ghost use Rattle.std.specs.Prelude.{true, ◌≡◌};
 ghost use Rattle.unpack.specs.Room.{has_room};
 

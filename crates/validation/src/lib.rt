@@ -1,4 +1,6 @@
 // Module 6: shape and validation of decision trees, whose nodes are lent as words.
+#![tactic(auto)]
+
 ghost use Rattle.std.specs.Prelude.{◌≡◌, ◌≤◌, pos, length};
 ghost use Rattle.integer.specs.Fill.{filled};
 ghost use Rattle.refusal.specs.Paper.{gives};
@@ -15,7 +17,7 @@ use refusal::Refusal;
 use shape::check_nodes;
 use visit::visit_all;
 
-#[derive(Drop)]
+#[derive(Clone, Copy)]
 pub enum Verdict {
     Accepted,
     Refused(Refusal),
@@ -34,7 +36,7 @@ pub fn check_shape(words: &[i32]) -> Verdict
 
 // The ends of a range that holds every value: the lowest in even words, the highest in odd ones.
 fn widest_end(i: usize) -> i32
-    ensures { «r» ≡ widest i }
+    ensures { result ≡ widest i }
 {
     if i % 2 == 0 { -2147483648 } else { 2147483647 }
 }

@@ -10,7 +10,7 @@ use nodes::{Node, NodeRead, Split, read_node};
 use refusal::Refusal;
 
 // The splits up to a node, it included, or what is wrong with it.
-#[derive(Drop)]
+#[derive(Clone, Copy)]
 pub enum Placed {
     Splits(usize),
     Refused(Refusal),

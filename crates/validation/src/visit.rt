@@ -24,14 +24,14 @@ use integer::to_bits;
 use nodes::{Node, NodeRead, Split, read_node};
 use refusal::{Refusal, Side};
 
-#[derive(Drop)]
+#[derive(Clone, Copy)]
 pub enum Entered {
     AtLeaf,
     Down(usize),
     Refused(Refusal),
 }
 
-#[derive(Drop)]
+#[derive(Clone, Copy)]
 pub enum Back {
     Up,
     Right(usize),

@@ -1,4 +1,6 @@
 // Module 8, the direct walk: from the root of a list of nodes down to a leaf, whose predictor gives the guess.
+#![tactic(auto)]
+
 ghost use Rattle.std.specs.Prelude.{◌≡◌, ◌*◌, ◌<◌, ◌+ℤ◌, length};
 ghost use Rattle.walk.specs.Walk.{answer_of, in_order, step_of, walk_from, walk_of, said, said_next};
 ghost use Rattle.walk.specs.Wide.{wrap64};
@@ -9,7 +11,7 @@ use predict::neighbours::PredictionData;
 use refusal::Refusal;
 
 // The context is the leaf's id; hops is how many splits were entered.
-#[derive(Drop)]
+#[derive(Clone, Copy)]
 pub struct PredictionResult {
     pub guess: i64,
     pub multiplier: u32,
@@ -17,14 +19,14 @@ pub struct PredictionResult {
     pub hops: u32,
 }
 
-#[derive(Drop)]
+#[derive(Clone, Copy)]
 pub enum Walked {
     Is(PredictionResult),
     Refused(Refusal),
 }
 
 // Where the walk goes on from a split.
-#[derive(Drop)]
+#[derive(Clone, Copy)]
 enum Next {
     At(usize),
     Refused(Refusal),
@@ -63,7 +65,7 @@ pub fn sum(guess: i64, offset: i32) -> i64
 
 // A leaf's answer.
 fn answer(leaf: Leaf, data: PredictionData, wp_pred: i64, hops: u32) -> PredictionResult
-    ensures { «r» ≡ answer_of «leaf» «data» wp_pred hops }
+    ensures { result ≡ answer_of «leaf» «data» wp_pred hops }
 {
     let predictor = leaf.predictor;
     let guess = predictor.predict_one(data, wp_pred);

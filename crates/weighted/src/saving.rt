@@ -16,7 +16,7 @@ ghost use Rattle.weighted.specs.Saved.{
 use crate::state::WeightedState;
 use refusal::Refusal;
 
-#[derive(Drop)]
+#[derive(Clone, Copy)]
 pub enum Copied {
     Done,
     Refused(Refusal),

@@ -20,7 +20,7 @@ use predict::neighbours::PredictionData;
 use refusal::Refusal;
 
 // The header, the place of the next or pending pixel, and whether an ask waits for its put, with what it found.
-#[derive(Drop)]
+#[derive(Clone, Copy)]
 pub struct WeightedState {
     pub header: WeightedHeader,
     pub width: usize,
@@ -30,7 +30,7 @@ pub struct WeightedState {
     pub found: Found,
 }
 
-#[derive(Drop)]
+#[derive(Clone, Copy)]
 pub struct Answer {
     pub state: WeightedState,
     pub guess: i64,
@@ -38,31 +38,31 @@ pub struct Answer {
 }
 
 // A refusal and the state as it was.
-#[derive(Drop)]
+#[derive(Clone, Copy)]
 pub struct Kept {
     pub state: WeightedState,
     pub refusal: Refusal,
 }
 
-#[derive(Drop)]
+#[derive(Clone, Copy)]
 pub enum Opened {
     Is(WeightedState),
     Refused(Refusal),
 }
 
-#[derive(Drop)]
+#[derive(Clone, Copy)]
 pub enum Asked {
     Is(Answer),
     Refused(Kept),
 }
 
-#[derive(Drop)]
+#[derive(Clone, Copy)]
 pub enum Put {
     Done(WeightedState),
     Refused(Kept),
 }
 
-#[derive(Drop)]
+#[derive(Clone, Copy)]
 pub enum Check {
     Passed,
     Refused(Refusal),
