@@ -1,0 +1,17 @@
+-- `open_ranges` meets its contract. The loop's invariant: i ends are written, the rest are as they were.
+use lib.ListN.{length}
+use mathlib.Core.Path.{◌≡◌, sym, ap, ◌∙◌}
+use native.Mathlib.Omega.{arith}
+use Prim.Native.Nat.{◌≤◌, ◌<◌, ◌-◌}
+use mir.Syntax.{w32}
+use Rattle.integer.proofs.Bounded.{held}
+use Rattle.integer.proofs.Fill.{filled_none, filled_more, filled_length}
+use Rattle.integer.specs.Fill.{filled}
+use Rattle.validation.specs.Visit.{widest}
+use Rattle.validation.proofs.open_ranges.Given as goal
+
+abbrev pub invariant-loop-i : goal.invariant-loop-i
+invariant-loop-i l = (l.i ≤ 512) × (l.work ≡ filled widest l.i l.initial.work)
+
+abbrev pub decreases-loop-i : goal.decreases-loop-i
+decreases-loop-i l = 512 - l.i
