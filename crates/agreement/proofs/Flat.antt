@@ -36,6 +36,7 @@ use Rattle.flatten.specs.Queue.{queued_for, grandchildren, first_of, node_of_rec
 use Rattle.flatten.specs.Records.{record_for, record_words, property_of, value_of, leaf_words}
 use Rattle.agreement.specs.Covers.{Covers, EndsAt, OffsetsFit}
 use Rattle.agreement.proofs.Direct.{steps_on, lies_on, inside_on}
+use Rattle.agreement.proofs.Half.{Half, halved}
 use Rattle.agreement.proofs.Written.{leaf_back, split_back}
 
 -- ---- which of the four grandchildren
@@ -185,20 +186,12 @@ module _ (words : List ℤ) (n : ℕ) (sound : shape_of words n ≡ gives tt) (s
 
     -- ---- where the flat walk stands
 
-    -- after h records: 2h steps deep, or one less at a leaf
-    abbrev Half : ℕ → ℕ → ℕ → Type 0
-    Half place depth hops = (depth ≡ 2 * hops) ⊎ ((depth + 1 ≡ 2 * hops) × ((l : Leaf) × LeafAt words place l))
-
     one_node : (place : ℕ) {s : Split} {l : Leaf} → SplitAt words place s → LeafAt words place l → ⊥
     one_node place split leaf = let z : ◌≡◌ {A = ℕ} 0 1 = cc in omega arith
 
-    even : (place depth hops : ℕ) {s : Split} → SplitAt words place s → Half place depth hops → depth ≡ 2 * hops
+    even : (place depth hops : ℕ) {s : Split} → SplitAt words place s → Half words place depth hops → depth ≡ 2 * hops
     even place depth hops split (inl e) = e
     even place depth hops split (inr w) = absurd (one_node place split w.1.1)
-
-    halved : (place depth hops : ℕ) → Half place depth hops → hops ≡ (depth + 1) / 2
-    halved place depth hops (inl e) = omega arith
-    halved place depth hops (inr w) = omega (arith, w.0)
 
     four_of : (k : ℕ) {s : Split} {ml mr : Node} → SplitAt words (place_of words k) s → node_at words s.left ≡ gives ml → node_at words s.right ≡ gives mr
         → grandchildren words (node_at words (place_of words k)) ≡ queued_for (gives ml) s.left ++ queued_for (gives mr) s.right
@@ -216,7 +209,7 @@ module _ (words : List ℤ) (n : ℕ) (sound : shape_of words n ≡ gives tt) (s
         pub fuel : ℕ
         pub enough : n ≤ fuel + place
         pub same : walk_from words cells n d wp fuel place depth ≡ answer
-        pub half : Half place depth hops
+        pub half : Half words place depth hops
 
       -- from a child, which lies at an odd depth, on to where the split's record leads
       from_child : (child hops : ℕ) (m : Node) → node_at words child ≡ gives m → child < n
@@ -294,7 +287,7 @@ module _ (words : List ℤ) (n : ℕ) (sound : shape_of words n ≡ gives tt) (s
               record {
                 end = record { place = place_of words k; leaf = l; depth = at.depth; inside = inside_here; is_leaf = is; lies = at.lies; walks = at.walks };
                 direct = sym at.same ∙ at_leaf at.fuel (place_of words k) at.depth at.enough inside_here is;
-                flatly = it ∙ ap (λ (j : ℕ). gives (answer_of l d wp j)) (halved (place_of words k) at.depth hops at.half);
+                flatly = it ∙ ap (λ (j : ℕ). gives (answer_of l d wp j)) (halved words (place_of words k) at.depth hops at.half);
               }
           by_node (node.Split s) is onward =
               let j = flatly.grandchild cells (split_record k s) in
