@@ -1,2 +1,3 @@
 pub mod Granted
 mod Steps
+pub mod PixelsLoop

@@ -1,0 +1,22 @@
+-- What a loop of `pixels` keeps.
+use borrow.Author.Rules.{rules}
+use lib.IntN.{ℤ, pos}
+use lib.ListN.{length, length-set, get_or, take, drop}
+use mathlib.Core.List.{List}
+use mathlib.Core.Path.{◌≡◌, refl, sym, ap, ◌∙◌}
+use mir.Syntax.{w32}
+use native.Mathlib.Omega.{arith}
+use Prim.Native.Nat.{ℕ, ◌+◌, ◌-◌, ◌*◌, ◌≤◌, ◌<◌}
+use Rattle.integer.proofs.Bounded.{held}
+use Rattle.session.specs.Session.{Asks, Puts}
+use Rattle.session.specs.declared.Session.{Session}
+use Rattle.row.specs.Row.{Row, part_of, pixels_from}
+use Rattle.row.proofs.Steps.{ask_ends, put_ends, goes_on}
+
+pub record Reached (residuals references records : List ℤ) (each : ℕ) (plane₀ : List ℤ) (contexts₀ : List ℕ) (cells₀ : List ℤ) (memory₀ : List ℕ) (s₀ : Session) (plane : List ℤ) (contexts : List ℕ) (cells : List ℤ) (memory : List ℕ) (s : Session) (k : ℕ) : Type 0 where
+  pub within : k ≤ length residuals
+  pub plane_long : length plane ≡ length plane₀
+  pub contexts_long : length contexts ≡ length contexts₀
+  pub cells_long : length cells ≡ length cells₀
+  pub memory_long : length memory ≡ length memory₀
+  pub ends_alike : pixels_from residuals references records each (length residuals - k) k s plane contexts cells memory ≡ pixels_from residuals references records each (length residuals) 0 s₀ plane₀ contexts₀ cells₀ memory₀
