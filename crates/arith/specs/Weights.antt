@@ -3,7 +3,6 @@ use Rattle.std.specs.Prelude.{◌||◌, [], ◌∷◌, ◌≡◌, refl, ℕ, zer
 use Rattle.std.proofs.Common.{ap}
 use Rattle.integer.specs.Order.{if}
 use Rattle.refusal.specs.Paper.{Outcome, gives, refuses, paper, read_back, reads_back, one_answer}
-use Rattle.refusal.specs.declared.Refusal.{Refusal}
 use Rattle.arith.specs.declared.Four.{Four}
 use Rattle.arith.specs.declared.Weight.{Weight}
 use Rattle.arith.specs.declared.Weight.TheVariants.{Is, Refused}

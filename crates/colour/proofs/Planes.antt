@@ -2,8 +2,7 @@
 use lib.IntN.{ℤ, pos}
 use lib.ListN.{length, get_or, take, drop}
 use mathlib.Core.List.{List, ◌++◌}
-use mathlib.Core.Path.{◌≡◌, refl, sym, ap, ◌∙◌}
-use native.Mathlib.Omega.{arith}
+use mathlib.Core.Path.{◌≡◌, sym, ap, ◌∙◌}
 use Prim.Native.Nat.{ℕ, ◌+◌, ◌<◌}
 use Rattle.integer.proofs.Fill.{tabulate_length, tabulated, tabulate_self, tabulate_agree, part_cell, filled_part}
 use Rattle.integer.specs.Fill.{tabulate, filled}

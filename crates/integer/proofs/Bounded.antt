@@ -10,7 +10,7 @@ use lib.Dec.{T, ltb, leb, leb→le}
 use lib.IntN.{ℤ, pos, negsuc, sub_ℕ, neg_ℤ, nat_abs, ◌+ℤ◌, ◌-ℤ◌, ◌*ℤ◌}
 use lib.Signed.{mag, shr_z, quot_z, lt_z, mag_shr}
 use mir.Facts.{to_z-of_z}
-use mir.Syntax.{Width, w32, w64}
+use mir.Syntax.{Width, w64}
 use mir.Val.{SFits, to_z, of_z, hbits}
 use Rattle.integer.specs.Order.{if, smaller, larger, magnitude}
 

@@ -1,14 +1,14 @@
 -- A whole number as the difference of two naturals, z = up z - down z, so that `omega`, which reads ℕ only, proves facts of ℤ:
 -- each operation and each test is one linear fact about the parts, and `same` turns an equation of parts into one of numbers.
 use Prim.Native.Nat.{ℕ, zero, suc, ◌+◌, ◌-◌, ◌*◌, ◌/◌, ◌≤◌, ◌<◌}
-use native.Mathlib.Nat.{zero-mul, mul-zero, zero-div}
+use native.Mathlib.Nat.{mul-zero, zero-div}
 use native.Mathlib.Omega.{arith}
 use mathlib.Core.Bool.{Bool, true, false, cond}
 use mathlib.Core.Path.{◌≡◌, refl, ap, sym, subst, subst⁻¹}
 use borrow.Author.Tests.{ltb-true, ltb-false, lt-ltb, le-ltb}
 use lib.Dec.{T, ltb}
 use lib.IntN.{ℤ, pos, negsuc, sub_ℕ, neg_ℤ, nat_abs, ◌+ℤ◌, ◌-ℤ◌, ◌*ℤ◌}
-use lib.Signed.{mag, lt_z, quot_z, shr_z}
+use lib.Signed.{lt_z, quot_z}
 use Rattle.integer.specs.Order.{magnitude}
 use Rattle.integer.proofs.Bounded.{Below}
 

@@ -8,10 +8,10 @@ use borrow.Author.Tests.{ltb-true, ltb-false, lt-ltb, le-ltb}
 use lib.Arith.{digits_mod}
 use lib.Dec.{T, ltb}
 use lib.IntN.{ℤ, pos, negsuc, nat_abs, ◌+ℤ◌, ◌-ℤ◌}
-use lib.Signed.{mag, shr_z, lt_z, non_neg}
+use lib.Signed.{shr_z, lt_z, non_neg}
 use mir.Facts.{sfits_to_z, sfits_widen, to_z-of_z, of_z-to_z}
 use mir.Syntax.{w32, w64}
-use mir.Val.{SFits, Fits, to_z, of_z, sel}
+use mir.Val.{SFits, Fits, to_z, of_z}
 use Rattle.integer.specs.Word.{bits_of, wrap}
 use Rattle.integer.proofs.Bounded.{Below}
 use Rattle.integer.proofs.Parts.{up, down, of_plus, of_minus}

@@ -1,5 +1,5 @@
 -- Choice by a test, and what is chosen by order: the smaller and the larger of two whole numbers, and the magnitude.
-use Rattle.std.specs.Prelude.{Bool, true, false, ℤ, pos, negsuc, nat_abs}
+use Rattle.std.specs.Prelude.{Bool, true, false, ℤ, pos, nat_abs}
 use Rattle.std.specs.Int.Signed.{lt_z}
 
 abbrev pub if : {A : Type 0} → Bool → A → A → A

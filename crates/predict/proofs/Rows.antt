@@ -7,7 +7,6 @@ use lib.IntN.{ℤ, pos}
 use lib.ListN.{length, get_or}
 use native.Mathlib.Omega.{arith}
 use borrow.Author.Tests.{le-leb}
-use Rattle.predict.specs.declared.neighbours.PredictionData.{PredictionData}
 use Rattle.predict.specs.Neighbours.{Inside, fetched}
 
 -- a cell that is there does not depend on the fallback

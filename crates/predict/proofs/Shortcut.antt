@@ -4,13 +4,13 @@ use lib.IntN.{ℤ, pos, nat_abs}
 use lib.ListN.{length, get_or}
 use mathlib.Core.Bool.{true}
 use mathlib.Core.List.{List, [], ◌∷◌}
-use mathlib.Core.Path.{◌≡◌, refl, sym, ap, ◌∙◌}
+use mathlib.Core.Path.{◌≡◌, sym, ap, ◌∙◌}
 use native.Mathlib.Omega.{arith}
 use Prim.Native.Nat.{ℕ, ◌+◌, ◌-◌, ◌≤◌, ◌<◌}
 use Rattle.refusal.specs.Paper.{Outcome, gives, refuses}
 use Rattle.predict.specs.declared.neighbours.PredictionData.{PredictionData}
 use Rattle.predict.specs.Neighbours.{Inside, fetched, left_of, top_of, topright_of, in_domain, neighbours, shortcut}
-use Rattle.predict.proofs.Domain.{Domain, domain, in_domain_lem}
+use Rattle.predict.proofs.Domain.{domain, in_domain_lem}
 use Rattle.predict.proofs.Rows.{cell_there, fetched_inside}
 
 -- the neighbours that the shortcut takes over, as the fetch at x - 1 has them

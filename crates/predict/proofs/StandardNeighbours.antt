@@ -5,12 +5,11 @@ use lib.IntN.{ℤ, pos}
 use lib.ListN.{length, get_or, get_or-eq_default}
 use mathlib.Core.Bool.{Bool, true, false, ◌&&◌, and-false, and-true}
 use mathlib.Core.List.{List, []}
-use mathlib.Core.Path.{◌≡◌, refl, sym, ap, ◌∙◌}
+use mathlib.Core.Path.{◌≡◌, refl, ap, ◌∙◌}
 use native.Mathlib.Omega.{arith}
-use Prim.Native.Nat.{ℕ, zero, suc, ◌+◌, ◌-◌, ◌≤◌, ◌<◌}
+use Prim.Native.Nat.{ℕ, ◌+◌, ◌-◌, ◌≤◌, ◌<◌}
 use Rattle.integer.specs.Order.{if}
 use Rattle.refusal.specs.Paper.{gives}
-use Rattle.predict.specs.declared.neighbours.PredictionData.{PredictionData}
 use Rattle.predict.specs.Neighbours.{before, present, fetched, left_of, top_of, topright_of, in_domain, neighbours}
 use Rattle.predict.specs.Standard.{Shows, W, N, NW, NE, NN, WW, NEE}
 use Rattle.predict.proofs.Domain.{Domain, domain}

@@ -1,12 +1,11 @@
 -- The library's guesses are the standard's predictions, each by its number.
 use lib.IntN.{ℤ, pos, ◌+ℤ◌, ◌-ℤ◌, +ℤ_comm}
 use lib.ListN.{get_or}
-use lib.Signed.{lt_z, quot_z}
-use mathlib.Core.Path.{◌≡◌, refl, sym, ap, ◌∙◌}
+use lib.Signed.{quot_z}
+use mathlib.Core.Path.{◌≡◌, refl, sym, ap}
 use native.Mathlib.Omega.{arith}
 use Prim.Native.Nat.{ℕ}
-use Rattle.integer.specs.Order.{if, magnitude}
-use Rattle.integer.proofs.Parts.{up, down, of_plus, of_minus, same}
+use Rattle.integer.proofs.Parts.{of_plus, of_minus, same}
 use Rattle.predict.specs.declared.neighbours.PredictionData.{PredictionData}
 use Rattle.predict.specs.declared.predictors.Numbered.TheVariants.{Is}
 use Rattle.predict.specs.declared.predictors.Predictor.{Predictor}

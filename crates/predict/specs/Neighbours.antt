@@ -1,5 +1,5 @@
 -- Module 2 of document 01: the seven neighbours by the fallbacks of `get_rows`, when they are refused, and the interior shortcut.
-use Rattle.std.specs.Prelude.{Bool, true, false, ◌&&◌, List, [], ◌∷◌, ◌≡◌, refl, ℕ, ◌+◌, ◌-◌, ◌^◌, ◌≤◌, ◌<◌, ltb, leb, eqb, ℤ, pos, length, get_or}
+use Rattle.std.specs.Prelude.{Bool, true, ◌&&◌, List, [], ◌∷◌, ◌≡◌, refl, ℕ, ◌+◌, ◌-◌, ◌^◌, ◌≤◌, ◌<◌, ltb, leb, eqb, ℤ, pos, length, get_or}
 use Rattle.std.proofs.Common.{ap}
 use Rattle.integer.specs.Order.{if}
 use Rattle.refusal.specs.Paper.{Outcome, gives, refuses, paper, read_back, reads_back, one_answer}

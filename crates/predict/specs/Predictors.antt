@@ -1,5 +1,5 @@
 -- Module 3 of document 01: the fourteen predictors by number, and the guess of each.
-use Rattle.std.specs.Prelude.{List, [], ◌∷◌, map, ◌≡◌, ℕ, ℤ, pos, ◌+ℤ◌, ◌-ℤ◌, ◌*ℤ◌, get_or}
+use Rattle.std.specs.Prelude.{List, [], ◌∷◌, map, ℕ, ℤ, pos, ◌+ℤ◌, ◌-ℤ◌, ◌*ℤ◌, get_or}
 use Rattle.std.specs.Int.Signed.{lt_z, quot_z}
 use Rattle.integer.specs.Order.{if, smaller, larger, magnitude}
 use Rattle.predict.specs.declared.neighbours.PredictionData.{PredictionData}

@@ -1,6 +1,6 @@
 -- Neighbours and predictors as ISO/IEC 18181-1's modular annex defines them, in its names. Nothing here knows of rows lent,
 -- widths refused or machine words. What each definition rests on is said in docs/DIFFERENCES.md: the standard's text is not at hand.
-use Rattle.std.specs.Prelude.{Bool, true, false, ◌&&◌, List, [], ◌∷◌, ◌≡◌, ℕ, ◌+◌, ◌-◌, ◌≤◌, ◌<◌, ltb, ℤ, pos, ◌+ℤ◌, ◌-ℤ◌, ◌*ℤ◌, length, get_or}
+use Rattle.std.specs.Prelude.{◌&&◌, List, [], ◌∷◌, ◌≡◌, ℕ, ◌+◌, ◌-◌, ◌≤◌, ◌<◌, ltb, ℤ, pos, ◌+ℤ◌, ◌-ℤ◌, ◌*ℤ◌, length, get_or}
 use Rattle.std.specs.Int.Signed.{lt_z, quot_z}
 use Rattle.integer.specs.Order.{if, smaller, larger, magnitude}
 

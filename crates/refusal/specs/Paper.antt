@@ -2,7 +2,6 @@
 use Rattle.std.specs.Prelude.{Bool, true, false, List, [], ◌∷◌, ◌≡◌, refl, ℕ, eqb, ℤ, pos, nat_abs, get_or}
 use Rattle.std.proofs.Common.{ap, sym, ◌∙◌}
 use Rattle.refusal.specs.declared.Refusal.{Refusal}
-use Rattle.refusal.specs.declared.Side.{Side}
 use Rattle.refusal.specs.declared.Refusal.TheVariants.{WordCount, TooMany, NotInForm, OutOfPlace, EmptyList, TooDeep, EmptySide, TooSmall, WideOffset, TooFewCells, WrongSize, HeaderRange, OutOfTurn, NoSuchColour}
 
 abbrev pub number_of : Refusal → ℕ

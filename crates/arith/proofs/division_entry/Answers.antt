@@ -1,5 +1,4 @@
 -- `division_entry` meets its promise: the table's rule is a test at each of its 64 entries, which antt computes, and the index is below 64.
-use borrow.Author.Rules.{rules}
 use Rattle.integer.specs.Fill.{tabulate}
 use Rattle.arith.proofs.Table.{looked_up}
 use Rattle.arith.proofs.division_entry.Goals as goal

@@ -1,5 +1,4 @@
 -- `floor_log2_nonzero` meets its promise: the leading zeros, the highest set bit and the bits below it make 64.
-use borrow.Author.Rules.{rules}
 use native.Mathlib.Omega.{arith}
 use Rattle.arith.proofs.Halvings.{some_set, none_set}
 use Rattle.arith.proofs.floor_log2_nonzero.Goals as goal

@@ -1,5 +1,4 @@
 -- `weight_by` meets its contract: an entry is at most 2^24 and maxweight at most 15, so nothing wraps; h is at most 32, so the shift is below 32.
-use borrow.Author.Rules.{rules}
 use borrow.Author.Tests.{lt-ltb, le-ltb}
 use lib.ListN.{length, get_or}
 use lib.Pow.{shr_le}

@@ -1,6 +1,5 @@
 -- `shift_right` meets its promise: a shift keeps a word a word, and from 31 bits on nothing but the sign is left.
-use Prim.Native.Nat.{ℕ, suc, ◌/◌, ◌≤◌, ◌<◌, ◌^◌}
-use borrow.Author.Rules.{rules}
+use Prim.Native.Nat.{ℕ, ◌≤◌, ◌<◌, ◌^◌}
 use lib.IntN.{ℤ, pos, negsuc}
 use lib.Pow.{pow_mono}
 use lib.Signed.{mag, shr_z}
@@ -20,11 +19,6 @@ kept m f = fits tt (shifted m (of_fits f))
 sign_left : (z : ℤ) (m n : ℕ) → mag z < m → mag z < n → shr_z z m ≡ shr_z z n
 sign_left (pos a) m n h k = ap pos (div-eq_of_lt h ∙ sym (div-eq_of_lt k))
 sign_left (negsuc a) m n h k = ap negsuc (div-eq_of_lt h ∙ sym (div-eq_of_lt k))
-
-pub returns-then-k-lt32 : goal.returns-then-k-lt32
-returns-then-k-lt32 c =
-    let f = c.ranges.a in
-    simp (to_z-of_z f, to_z-of_z (kept (2 ^ c.args.k) f))
 
 pub returns-else-k-lt32 : goal.returns-else-k-lt32
 returns-else-k-lt32 c =

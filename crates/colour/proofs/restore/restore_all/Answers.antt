@@ -1,5 +1,4 @@
 -- `restore_all` meets its contract. The loop's invariant: i triples are restored in all three planes, the rest are as they were.
-use borrow.Author.Rules.{rules}
 use lib.IntN.{ℤ, pos}
 use lib.ListN.{length, get_or, set}
 use mathlib.Core.Path.{◌≡◌, refl, sym, ap, ap₂, ◌∙◌}
@@ -7,107 +6,14 @@ use mathlib.Core.List.{List}
 use mir.Syntax.{w32}
 use mir.Val.{to_z, of_z}
 use native.Mathlib.Omega.{arith}
-use Prim.Native.Nat.{◌≤◌, ◌<◌, ◌-◌}
-use Rattle.integer.specs.Fill.{filled}
+use Prim.Native.Nat.{◌<◌}
 use Rattle.integer.proofs.Bounded.{held}
-use Rattle.integer.proofs.Fill.{filled_length, filled_none, filled_more, filled_ahead, filled_all}
-use Rattle.colour.specs.Restore.{restored, first, second, third, at, image, reorder}
+use Rattle.integer.proofs.Fill.{filled_none, filled_more, filled_ahead}
+use Rattle.colour.specs.Restore.{first, second, third, at, image, reorder}
 use Rattle.colour.proofs.restore.restore_all.Goals as goal
 
 pub loop-i-init : goal.loop-i-init
 loop-i-init c = (omega arith, refl, omega arith, omega arith, sym (filled_none _ _), sym (filled_none _ _), sym (filled_none _ _))
-
-pub offset_bounds-a-i : goal.offset_bounds-a-i
-offset_bounds-a-i c =
-    -- the planes keep their length
-    let long_a : length c.loop-i.a ≡ length c.args.a.now =
-    let within : c.loop-i.i ≤ length c.args.a.now = omega arith in
-    ap length c.loop-i.invariant.4 ∙ filled_length _ _ _ within in
-    omega (arith, long_a)
-
-pub slice_copy_out-t : goal.slice_copy_out-t
-slice_copy_out-t c =
-    -- the planes keep their length
-    let long_a : length c.loop-i.a ≡ length c.args.a.now =
-    let within : c.loop-i.i ≤ length c.args.a.now = omega arith in
-    ap length c.loop-i.invariant.4 ∙ filled_length _ _ _ within in
-    omega (arith, long_a)
-
-pub offset_bounds-b-i : goal.offset_bounds-b-i
-offset_bounds-b-i c =
-    -- the planes keep their length
-    let long_a : length c.loop-i.a ≡ length c.args.a.now =
-    let within : c.loop-i.i ≤ length c.args.a.now = omega arith in
-    ap length c.loop-i.invariant.4 ∙ filled_length _ _ _ within in
-    omega (arith, long_a)
-
-pub slice_copy_out-t-in-loop-i : goal.slice_copy_out-t-in-loop-i
-slice_copy_out-t-in-loop-i c =
-    let long_b : length c.loop-i.b ≡ length c.args.a.now =
-    let within : c.loop-i.i ≤ length c.args.b.now = omega arith in
-    ap length c.loop-i.invariant.5 ∙ filled_length _ _ _ within ∙ omega arith in
-    omega (arith, long_b)
-
-pub offset_bounds-c-i : goal.offset_bounds-c-i
-offset_bounds-c-i c =
-    -- the planes keep their length
-    let long_a : length c.loop-i.a ≡ length c.args.a.now =
-    let within : c.loop-i.i ≤ length c.args.a.now = omega arith in
-    ap length c.loop-i.invariant.4 ∙ filled_length _ _ _ within in
-    omega (arith, long_a)
-
-pub slice_copy_out-t-in-loop-i-2 : goal.slice_copy_out-t-in-loop-i-2
-slice_copy_out-t-in-loop-i-2 c =
-    let long_c : length c.loop-i.c ≡ length c.args.a.now =
-    let within : c.loop-i.i ≤ length c.args.c.now = omega arith in
-    ap length c.loop-i.invariant.6 ∙ filled_length _ _ _ within ∙ omega arith in
-    omega (arith, long_c)
-
-pub offset_bounds-a-i-in-loop-i : goal.offset_bounds-a-i-in-loop-i
-offset_bounds-a-i-in-loop-i c =
-    -- the planes keep their length
-    let long_a : length c.loop-i.a ≡ length c.args.a.now =
-    let within : c.loop-i.i ≤ length c.args.a.now = omega arith in
-    ap length c.loop-i.invariant.4 ∙ filled_length _ _ _ within in
-    omega (arith, long_a)
-
-pub bounds-a-i : goal.bounds-a-i
-bounds-a-i c =
-    -- the planes keep their length
-    let long_a : length c.loop-i.a ≡ length c.args.a.now =
-    let within : c.loop-i.i ≤ length c.args.a.now = omega arith in
-    ap length c.loop-i.invariant.4 ∙ filled_length _ _ _ within in
-    omega (arith, long_a)
-
-pub offset_bounds-c-i-in-loop-i : goal.offset_bounds-c-i-in-loop-i
-offset_bounds-c-i-in-loop-i c =
-    -- the planes keep their length
-    let long_a : length c.loop-i.a ≡ length c.args.a.now =
-    let within : c.loop-i.i ≤ length c.args.a.now = omega arith in
-    ap length c.loop-i.invariant.4 ∙ filled_length _ _ _ within in
-    omega (arith, long_a)
-
-pub bounds-c-i : goal.bounds-c-i
-bounds-c-i c =
-    let long_c : length c.loop-i.c ≡ length c.args.a.now =
-    let within : c.loop-i.i ≤ length c.args.c.now = omega arith in
-    ap length c.loop-i.invariant.6 ∙ filled_length _ _ _ within ∙ omega arith in
-    omega (arith, long_c)
-
-pub offset_bounds-b-i-in-loop-i : goal.offset_bounds-b-i-in-loop-i
-offset_bounds-b-i-in-loop-i c =
-    -- the planes keep their length
-    let long_a : length c.loop-i.a ≡ length c.args.a.now =
-    let within : c.loop-i.i ≤ length c.args.a.now = omega arith in
-    ap length c.loop-i.invariant.4 ∙ filled_length _ _ _ within in
-    omega (arith, long_a)
-
-pub bounds-b-i : goal.bounds-b-i
-bounds-b-i c =
-    let long_b : length c.loop-i.b ≡ length c.args.a.now =
-    let within : c.loop-i.i ≤ length c.args.b.now = omega arith in
-    ap length c.loop-i.invariant.5 ∙ filled_length _ _ _ within ∙ omega arith in
-    omega (arith, long_b)
 
 pub loop-i-preserved : goal.loop-i-preserved
 loop-i-preserved c =
@@ -130,36 +36,3 @@ loop-i-preserved c =
       ap₂ (λ (d : List ℤ) (v : ℤ). set d c.loop-i.i v) c.loop-i.invariant.5 wrote_b ∙ filled_more _ _ _ below_b,
       ap₂ (λ (d : List ℤ) (v : ℤ). set d c.loop-i.i v) c.loop-i.invariant.6 wrote_c ∙ filled_more _ _ _ below_c,
     )
-
-pub shape_of-a : goal.shape_of-a
-shape_of-a c =
-    -- the planes keep their length
-    let long_a : length c.loop-i.a ≡ length c.args.a.now =
-    let within : c.loop-i.i ≤ length c.args.a.now = omega arith in
-    ap length c.loop-i.invariant.4 ∙ filled_length _ _ _ within in
-    long_a
-
-pub shape_of-b : goal.shape_of-b
-shape_of-b c =
-    let long_b : length c.loop-i.b ≡ length c.args.a.now =
-    let within : c.loop-i.i ≤ length c.args.b.now = omega arith in
-    ap length c.loop-i.invariant.5 ∙ filled_length _ _ _ within ∙ omega arith in
-    long_b ∙ omega arith
-
-pub shape_of-c : goal.shape_of-c
-shape_of-c c =
-    let long_c : length c.loop-i.c ≡ length c.args.a.now =
-    let within : c.loop-i.i ≤ length c.args.c.now = omega arith in
-    ap length c.loop-i.invariant.6 ∙ filled_length _ _ _ within ∙ omega arith in
-    long_c ∙ omega arith
-
-pub returns : goal.returns
-returns c =
-    let all : c.loop-i.i ≡ length c.args.a.now = omega arith in
-    let all_b : length c.args.b.now ≡ length c.args.a.now = omega arith in
-    let all_c : length c.args.c.now ≡ length c.args.a.now = omega arith in
-    record {
-      first_is = (rw all at c.loop-i.invariant.4) ∙ filled_all _ _ c.args.a.now refl;
-      second_is = (rw all at c.loop-i.invariant.5) ∙ filled_all _ _ c.args.b.now all_b;
-      third_is = (rw all at c.loop-i.invariant.6) ∙ filled_all _ _ c.args.c.now all_c;
-    }

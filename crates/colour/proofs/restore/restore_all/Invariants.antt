@@ -1,17 +1,9 @@
 -- `restore_all` meets its contract. The loop's invariant: i triples are restored in all three planes, the rest are as they were.
-use borrow.Author.Rules.{rules}
-use lib.IntN.{ℤ, pos}
-use lib.ListN.{length, get_or, set}
-use mathlib.Core.Path.{◌≡◌, refl, sym, ap, ap₂, ◌∙◌}
-use mathlib.Core.List.{List}
-use mir.Syntax.{w32}
-use mir.Val.{to_z, of_z}
-use native.Mathlib.Omega.{arith}
-use Prim.Native.Nat.{◌≤◌, ◌<◌, ◌-◌}
+use lib.ListN.{length}
+use mathlib.Core.Path.{◌≡◌}
+use Prim.Native.Nat.{◌≤◌, ◌-◌}
 use Rattle.integer.specs.Fill.{filled}
-use Rattle.integer.proofs.Bounded.{held}
-use Rattle.integer.proofs.Fill.{filled_length, filled_none, filled_more, filled_ahead, filled_all}
-use Rattle.colour.specs.Restore.{restored, first, second, third, at, image, reorder}
+use Rattle.colour.specs.Restore.{restored, first, second, third}
 use Rattle.colour.proofs.restore.restore_all.Given as goal
 
 abbrev pub invariant-loop-i : goal.invariant-loop-i

@@ -1,5 +1,4 @@
 -- `restore_part` meets its contract: an operation and then an order is the two at once.
-use borrow.Author.Rules.{rules}
 use Rattle.colour.proofs.Planes.{composed}
 use Rattle.colour.proofs.restore.restore_part.Goals as goal
 

@@ -1,15 +1,9 @@
 -- `restore_parts` meets its contract. The loop's invariant: the planes are restored up to `start`, and as they were from there on.
-use borrow.Author.Rules.{rules}
-use lib.IntN.{ℤ}
-use lib.ListN.{length, take, drop, length-take, length-drop}
-use mathlib.Core.List.{List, ◌++◌}
-use mathlib.Core.Path.{◌≡◌, refl, sym, ap, subst, ◌∙◌}
-use native.Mathlib.Omega.{arith}
-use Prim.Native.Nat.{ℕ, ◌+◌, ◌-◌, ◌≤◌}
+use lib.ListN.{length}
+use mathlib.Core.Path.{◌≡◌}
+use Prim.Native.Nat.{◌-◌, ◌≤◌}
 use Rattle.integer.specs.Fill.{filled}
-use Rattle.integer.proofs.Fill.{filled_length, filled_none, filled_all}
-use Rattle.colour.specs.Restore.{restored, first, second, third, Written}
-use Rattle.colour.proofs.Planes.{next}
+use Rattle.colour.specs.Restore.{restored, first, second, third}
 use Rattle.colour.proofs.restore.restore_parts.Given as goal
 
 abbrev pub invariant-loop-start : goal.invariant-loop-start

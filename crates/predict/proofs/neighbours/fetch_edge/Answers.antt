@@ -1,5 +1,4 @@
 -- `fetch_edge` meets its contract: each call's result is read back (h) and is what the definition says (e).
-use borrow.Author.Rules.{rules}
 use mir.Syntax.{w32}
 use Rattle.integer.proofs.Bounded.{held}
 use Rattle.predict.specs.Neighbours.{fetched}

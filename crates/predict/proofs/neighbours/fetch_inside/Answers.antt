@@ -1,5 +1,4 @@
 -- `fetch_inside` meets its contract: every cell that is read is there.
-use borrow.Author.Rules.{rules}
 use lib.IntN.{pos}
 use lib.ListN.{get_or}
 use mir.Syntax.{w32}

@@ -1,34 +1,13 @@
 -- `clamped_gradient` meets its contract: the value is kept between the smaller and the larger, all read back.
-use borrow.Author.Rules.{rules}
-use lib.IntN.{◌+ℤ◌, ◌-ℤ◌}
 use mathlib.Core.Path.{◌≡◌, ◌∙◌}
 use mir.Facts.{to_z-of_z}
 use mir.Syntax.{w64}
 use mir.Val.{to_z, of_z}
 use Prim.Native.Nat.{◌^◌}
-use Rattle.integer.proofs.Bounded.{Below, fits, back, held, of_fits, plus, minus}
+use Rattle.integer.proofs.Bounded.{Below, back, held, of_fits, plus, minus}
 use Rattle.integer.specs.Order.{smaller, larger}
 use Rattle.predict.proofs.Gradient.{kept_between}
 use Rattle.predict.proofs.predictors.clamped_gradient.Goals as goal
-
-pub overflow_add-l : goal.overflow_add-l
-overflow_add-l c =
-    let l : Below (2 ^ 31) c.args.left = of_fits c.ranges.left in
-    let t : Below (2 ^ 31) c.args.top = of_fits c.ranges.top in
-    let is_l : c.widen-l.result ≡ c.args.left = c.widen-l.ensures ∙ to_z-of_z c.ranges.left in
-    let is_t : c.widen-t.result ≡ c.args.top = c.widen-t.ensures ∙ to_z-of_z c.ranges.top in
-    simp (is_l, is_t, back tt l, back tt t) (fits tt (plus l t))
-
-pub overflow_sub-l : goal.overflow_sub-l
-overflow_sub-l c =
-    let l : Below (2 ^ 31) c.args.left = of_fits c.ranges.left in
-    let t : Below (2 ^ 31) c.args.top = of_fits c.ranges.top in
-    let corner : Below (2 ^ 31) c.args.topleft = of_fits c.ranges.topleft in
-    let is_l : c.widen-l.result ≡ c.args.left = c.widen-l.ensures ∙ to_z-of_z c.ranges.left in
-    let is_t : c.widen-t.result ≡ c.args.top = c.widen-t.ensures ∙ to_z-of_z c.ranges.top in
-    let is_corner : c.widen-corner.result ≡ c.args.topleft = c.widen-corner.ensures ∙ to_z-of_z c.ranges.topleft in
-    let sum = plus l t in
-    simp (is_l, is_t, is_corner, back tt l, back tt t, back tt corner, back tt sum) (fits tt (minus sum corner))
 
 pub returns : goal.returns
 returns c =
