@@ -8,7 +8,7 @@ use predict::predictors::{Numbered, Predictor};
 use refusal::Refusal;
 
 // A leaf and a split have enums of their own: through one enum of both, the walk would carry each record by way of memory.
-#[derive(Drop)]
+#[derive(Clone, Copy)]
 pub enum LeafRead {
     Is(FlatLeaf),
     Refused(Refusal),
