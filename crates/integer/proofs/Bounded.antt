@@ -25,7 +25,7 @@ fits {w} {b} t h = record { sfits = lt_of_lt_of_le h.size (leb→le b (2 ^ hbits
 pub back : {b : ℕ} {z : ℤ} → T (leb b (2 ^ 63)) → Below b z → to_z w64 (of_z w64 z) ≡ z
 back t h = to_z-of_z (fits {w = w64} t h)
 
--- what a call's result holds is the number again: `held w32 c.CALL.result c.CALL.ok`
+-- what a call's result holds is the number again: `held w32 c.CALL.result c.CALL.type_inv`
 pub held : (w : Width) (z : ℤ) → mag z < 2 ^ hbits w → to_z w (of_z w z) ≡ z
 held w z h = to_z-of_z (record { sfits = h })
 
