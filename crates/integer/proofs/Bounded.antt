@@ -1,5 +1,5 @@
 -- Bounds on whole numbers, carried along with each operation, so that "it fits" computes.
--- `Below b z` says that z is at least -b and less than b. One line an operation; `fits tt` answers a need, `back tt` reads back
+-- `Below b z` says that z is at least -b and less than b. One line an operation; `fits tt` answers a goal, `back tt` reads back
 -- what an `i64` holds.
 use Prim.Native.Nat.{ℕ, zero, suc, ◌+◌, ◌-◌, ◌*◌, ◌/◌, ◌≤◌, ◌<◌, ◌^◌, zero-le}
 use native.Mathlib.Nat.{div-le_self, div-mul-le_self, div-zero, le-div_iff_mul-le, mul-le-mul, mul-le-mul_right, mul-suc, mul-pos, le_refl, le_trans, lt_of_lt_of_le, le_of_lt, zero-lt-suc}
@@ -17,7 +17,7 @@ use Rattle.integer.specs.Order.{if, smaller, larger, magnitude}
 pub record Below (b : ℕ) (z : ℤ) : Type 0 where
   pub size : mag z < b
 
--- what a need asks: `fits tt h`
+-- what a goal asks: `fits tt h`
 pub fits : {w : Width} {b : ℕ} {z : ℤ} → T (leb b (2 ^ hbits w)) → Below b z → SFits w z
 fits {w} {b} t h = record { sfits = lt_of_lt_of_le h.size (leb→le b (2 ^ hbits w) t) }
 
