@@ -1,16 +1,16 @@
 -- The weights once shifted sum to 13..31, so the table's index is in range, and the product in the average stays below 2^63.
 use lib.IntN.{ℤ, pos, ◌+ℤ◌, ◌*ℤ◌}
 use lib.Pow.{pow_pos, pow_mono, pow-add}
-use lib.Signed.{mag, shr_z}
+use lib.Signed.{mag}
 use mathlib.Core.Path.{◌≡◌, ap, sym, ◌∙◌}
-use native.Mathlib.Nat.{add-mul, div-mul-le_self, div-add-mod', le_refl, lt_of_not-le, mod-eq_of_lt, mod-lt, mul-le-mul, mul-le-mul_right, pow-suc, sub-add_cancel, lt_of_lt_of_le}
+use native.Mathlib.Nat.{add-mul, div-mul-le_self, div-add-mod', le_refl, lt_of_not-le, mod-eq_of_lt, mod-lt, mul-le-mul, mul-le-mul_right, pow-suc, sub-add_cancel}
 use native.Mathlib.Omega.{arith}
-use Prim.Native.Nat.{ℕ, suc, ◌+◌, ◌-◌, ◌*◌, ◌/◌, ◌%◌, ◌^◌, ◌≤◌, ◌<◌}
+use Prim.Native.Nat.{ℕ, suc, ◌+◌, ◌-◌, ◌*◌, ◌/◌, ◌^◌, ◌≤◌, ◌<◌}
 use Rattle.arith.proofs.Halvings.{highest_bit}
 use Rattle.arith.specs.Weights.{entry, entry_at, floor_log2}
 use Rattle.integer.proofs.Bounded.{Below, at_most, looser, plus, by_factor, shifted_down}
 use Rattle.arith.specs.declared.Four.{Four}
-use Rattle.blend.specs.Blend.{Light, Small, total, shifted_by, normalised, average_by}
+use Rattle.blend.specs.Blend.{Light, Small, total, normalised, average_by}
 
 -- a number between its quotient's multiple and the next
 between : (n k : ℕ) → 0 < k → (n / k * k ≤ n) × (n < n / k * k + k)

@@ -3,7 +3,7 @@ use borrow.Author.Tests.{leb-true}
 use lib.Dec.{leb}
 use mathlib.Core.Bool.{Bool, true, ◌&&◌}
 use mathlib.Core.Path.{◌≡◌}
-use Prim.Native.Nat.{ℕ, ◌≤◌}
+use Prim.Native.Nat.{◌≤◌}
 use Rattle.integer.proofs.Tests.{and_left, and_right}
 use Rattle.blend.specs.declared.WeightedHeader.{WeightedHeader}
 use Rattle.blend.specs.declared.Found.{Found}

@@ -1,6 +1,6 @@
 -- Module 4 of document 01, one pixel: the header's ranges, the four sub-predictions, their weights and their average, when it is
 -- clamped, the property, and the errors that the true value leaves. Numbers are in eighths where the Rust adds three bits.
-use Rattle.std.specs.Prelude.{Bool, true, false, ◌&&◌, ◌||◌, not, List, [], ◌∷◌, ◌≡◌, refl, ℕ, ◌+◌, ◌-◌, ◌*◌, ◌/◌, ◌^◌, ◌≤◌, ◌<◌, leb, ltb, ℤ, pos, ◌+ℤ◌, ◌-ℤ◌, ◌*ℤ◌}
+use Rattle.std.specs.Prelude.{Bool, ◌&&◌, ◌||◌, not, [], ◌∷◌, ◌≡◌, refl, ℕ, ◌+◌, ◌-◌, ◌*◌, ◌/◌, ◌^◌, ◌≤◌, ◌<◌, leb, ltb, ℤ, pos, ◌+ℤ◌, ◌-ℤ◌, ◌*ℤ◌}
 use Rattle.std.proofs.Common.{ap}
 use Rattle.std.specs.Int.Signed.{mag, lt_z, shr_z}
 use Rattle.arith.specs.Weights.{entry, floor_log2, weights_of}

@@ -1,7 +1,7 @@
 -- What the mask means: bit b is set exactly when some split among the nodes sets it.
 use borrow.Author.Tests.{eqb-true, le-leb}
 use lib.Bits.{bit_or, or_shr, or_mod}
-use lib.Dec.{eqb, leb}
+use lib.Dec.{eqb}
 use lib.IntN.{ℤ}
 use lib.ListN.{length}
 use mathlib.Core.Bool.{Bool, true, false, ◌&&◌}

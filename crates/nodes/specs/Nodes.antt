@@ -8,8 +8,6 @@ use Rattle.predict.specs.Predictors.{numbered}
 use Rattle.predict.specs.declared.predictors.Numbered.{Numbered}
 use Rattle.predict.specs.declared.predictors.Numbered.TheVariants as numbering
 use Rattle.refusal.specs.Paper.{Outcome, gives, refuses, paper, read_back, reads_back, one_answer}
-use Rattle.nodes.specs.declared.Split.{Split}
-use Rattle.nodes.specs.declared.Leaf.{Leaf}
 use Rattle.nodes.specs.declared.Node.{Node}
 use Rattle.nodes.specs.declared.Node.TheVariants as node
 use Rattle.nodes.specs.declared.NodeRead.{NodeRead}

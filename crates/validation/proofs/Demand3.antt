@@ -15,7 +15,6 @@ use Rattle.integer.proofs.Parts.{less, not_less, is_less, is_not_less}
 use Rattle.integer.specs.Order.{if}
 use Rattle.nodes.proofs.Read.{property_small}
 use Rattle.nodes.specs.Nodes.{node_at, then}
-use Rattle.nodes.specs.declared.Leaf.{Leaf}
 use Rattle.nodes.specs.declared.Node.{Node}
 use Rattle.nodes.specs.declared.Node.TheVariants as node
 use Rattle.nodes.specs.declared.Split.{Split}

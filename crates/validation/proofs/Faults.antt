@@ -1,9 +1,9 @@
 -- Place after place: what one node more says of the first fault and of the count of splits.
-use lib.Dec.{leb, eqb}
+use lib.Dec.{leb}
 use lib.IntN.{ℤ, pos}
 use mathlib.Core.Bool.{Bool, true, false}
 use mathlib.Core.List.{List, [], ◌∷◌}
-use mathlib.Core.Path.{◌≡◌, refl, sym, ap, ◌∙◌}
+use mathlib.Core.Path.{◌≡◌, refl, sym, ap}
 use native.Mathlib.Decide.{dec_lt}
 use native.Mathlib.Nat.{add-zero}
 use native.Mathlib.Numerals.{add-one}
@@ -15,7 +15,7 @@ use Rattle.nodes.specs.declared.Node.{Node}
 use Rattle.nodes.specs.declared.Node.TheVariants as node
 use Rattle.refusal.proofs.Outcomes.{same_given, no_refusal}
 use Rattle.refusal.specs.Paper.{Outcome, gives, refuses}
-use Rattle.validation.specs.Shape.{in_place, placed, placed_leaf, placed_split, splits_with, splits_in, splits_before, first_fault}
+use Rattle.validation.specs.Shape.{in_place, placed, splits_with, splits_in, splits_before, first_fault}
 
 abbrev as_unit : {A : Type 0} → Outcome A → Outcome Unit
 as_unit (gives a) = gives tt

@@ -17,7 +17,7 @@ use Rattle.nodes.specs.Nodes.{then, node_at}
 use Rattle.nodes.specs.declared.Node.TheVariants as node
 use Rattle.nodes.specs.declared.Split.{Split}
 use Rattle.refusal.specs.Paper.{Outcome, gives, refuses}
-use Rattle.validation.specs.Visit.{low, high, left_of, right_of, empty_side, visit, entered, levels, all_ranges}
+use Rattle.validation.specs.Visit.{left_of, right_of, empty_side, visit, entered, levels, all_ranges}
 use Rattle.validation.specs.Frames.{Frame, frame_in, base, ranges, at_leaf, down, descended, restored, narrowed, back_of, back_work, Sits, Framed, RightFits}
 use Rattle.validation.specs.declared.visit.Back.TheVariants.{Up, Right}
 use Rattle.validation.proofs.Sound.{inside, children}

@@ -7,14 +7,13 @@ use mathlib.Core.List.{List}
 use mathlib.Core.Logic.{◌⊎◌, inl, inr}
 use mathlib.Core.Path.{◌≡◌, refl}
 use native.Mathlib.Omega.{arith}
-use Prim.Native.Nat.{ℕ, zero, suc, ◌+◌, ◌*◌, ◌≤◌, ◌<◌}
+use Prim.Native.Nat.{ℕ, zero, suc, ◌+◌, ◌≤◌, ◌<◌}
 use Rattle.integer.specs.Order.{if}
 use Rattle.nodes.specs.Nodes.{node_at}
 use Rattle.nodes.specs.declared.Leaf.{Leaf}
 use Rattle.nodes.specs.declared.Node.{Node}
 use Rattle.nodes.specs.declared.Node.TheVariants as node
 use Rattle.nodes.specs.declared.Split.{Split}
-use Rattle.refusal.proofs.Outcomes.{no_refusal}
 use Rattle.refusal.specs.Paper.{gives}
 use Rattle.validation.specs.Reach.{SplitAt, LeafAt, LiesAt, root, left, right, chosen, Walks, start, step}
 use Rattle.validation.specs.Shape.{shape_of}

@@ -1,22 +1,19 @@
 -- The words of a frame and of a range: what is stored is what was meant.
-use lib.Dec.{T, leb, ltb}
+use lib.Dec.{T, leb}
 use lib.IntN.{ℤ, pos, negsuc, ◌+ℤ◌}
-use lib.ListN.{length, get_or, set}
 use lib.Signed.{lt_z, mag}
-use mathlib.Core.Bool.{Bool, true, false, ◌||◌, not}
+use mathlib.Core.Bool.{Bool, true, false, ◌||◌}
 use mathlib.Core.List.{List}
 use mathlib.Core.Path.{◌≡◌, refl, sym, subst}
-use mir.Syntax.{w32}
-use mir.Val.{SFits}
 use native.Mathlib.Omega.{arith}
-use Prim.Native.Nat.{ℕ, zero, suc, ◌+◌, ◌<◌, ◌^◌}
+use Prim.Native.Nat.{ℕ, zero, suc, ◌<◌, ◌^◌}
 use borrow.Author.Tests.{ltb-true}
 use Rattle.integer.proofs.Parts.{of_plus, same}
 use Rattle.nodes.specs.declared.Split.{Split}
-use Rattle.refusal.specs.Paper.{Outcome, gives, refuses, paper}
+use Rattle.refusal.specs.Paper.{paper}
 use Rattle.refusal.specs.declared.Refusal.TheVariants.{EmptySide}
 use Rattle.validation.specs.Visit.{low, high, empty_side}
-use Rattle.validation.specs.Frames.{Step, split_step}
+use Rattle.validation.specs.Frames.{split_step}
 
 pub or_left_false : (a b : Bool) → (a || b) ≡ false → a ≡ false
 or_left_false true b e = e

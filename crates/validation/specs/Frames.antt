@@ -1,14 +1,14 @@
 -- How the visit uses its work area of 10,762 words: 512 for the ranges, then 2,050 frames of five, one for each split on the way from the
 -- root: its property, its value, the range that it found, and its right child while that is still to be visited, else 0.
-use Rattle.std.specs.Prelude.{Bool, true, false, ◌&&◌, List, [], ◌∷◌, ◌≡◌, ℕ, zero, suc, ◌+◌, ◌*◌, ◌-◌, ◌<◌, ◌≤◌, leb, eqb, ℤ, pos, ◌+ℤ◌, length, get_or, set, take, drop}
+use Rattle.std.specs.Prelude.{List, [], ◌∷◌, ◌≡◌, ℕ, ◌+◌, ◌*◌, ◌<◌, leb, eqb, ℤ, pos, get_or, set, take}
 use Rattle.integer.specs.Order.{if}
 use Rattle.integer.specs.Word.{bits_of}
-use Rattle.nodes.specs.Nodes.{node_at, then}
+use Rattle.nodes.specs.Nodes.{node_at}
 use Rattle.nodes.specs.declared.Node.{Node}
 use Rattle.nodes.specs.declared.Node.TheVariants as node
 use Rattle.nodes.specs.declared.Split.{Split}
 use Rattle.refusal.specs.Paper.{Outcome, gives, refuses, paper}
-use Rattle.validation.specs.Visit.{low, high, empty_side, left_of, visit, entered}
+use Rattle.validation.specs.Visit.{low, high, empty_side, left_of}
 use Rattle.validation.specs.declared.visit.Entered.{Entered}
 use Rattle.validation.specs.declared.visit.Entered.TheVariants.{AtLeaf, Down, Refused}
 use Rattle.validation.specs.declared.visit.Back.{Back}

@@ -1,5 +1,5 @@
 -- Demand 3: which leaves the walk reaches, by its own rule, and how deep a node lies.
-use Rattle.std.specs.Prelude.{true, List, ◌≡◌, ◌⊎◌, ℕ, zero, suc, ◌≤◌, ◌<◌, ℤ, pos}
+use Rattle.std.specs.Prelude.{List, ◌≡◌, ℕ, suc, ◌≤◌, ◌<◌, ℤ}
 use Rattle.std.specs.Int.Signed.{lt_z}
 use Rattle.std.specs.Int.{w32}
 use Rattle.std.proofs.Common.{SFits}

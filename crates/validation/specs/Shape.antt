@@ -1,7 +1,7 @@
 -- Module 6 of document 01, shape: the order that `Tree::read` writes. The k-th split from 0 has children 2k+1 and 2k+2, lying after it;
 -- the count is 2·splits+1. Too short: 4 at the length; too long: 4 at the first place above twice the splits before it. The lowest place
 -- counts, 3 before 4 at one place.
-use Rattle.std.specs.Prelude.{Bool, true, false, ◌&&◌, List, [], ◌∷◌, ◌≡◌, ℕ, zero, suc, ◌+◌, ◌*◌, leb, eqb, ℤ, pos}
+use Rattle.std.specs.Prelude.{Bool, ◌&&◌, List, [], ◌∷◌, ℕ, zero, suc, ◌+◌, ◌*◌, leb, eqb, ℤ, pos}
 use Rattle.integer.specs.Order.{if}
 use Rattle.nodes.specs.Nodes.{counted, node_at, then}
 use Rattle.nodes.specs.declared.Node.{Node}

@@ -1,5 +1,5 @@
 -- What validation answers, and what the work area holds afterwards.
-use Rattle.std.specs.Prelude.{Bool, true, false, ◌&&◌, not, List, [], ◌∷◌, ◌≡◌, ℕ, ltb, leb, eqb, ℤ, pos, length}
+use Rattle.std.specs.Prelude.{Bool, true, false, ◌&&◌, not, List, [], ◌∷◌, ◌≡◌, ℕ, ltb, eqb, ℤ, pos, length}
 use Rattle.integer.specs.Fill.{filled}
 use Rattle.integer.specs.Order.{if}
 use Rattle.nodes.specs.Nodes.{then}

@@ -1,6 +1,5 @@
 -- Module 6 of document 01, validation: a visit of the tree, depth first, left first; at each node depth is tested before range.
-use Rattle.std.specs.Prelude.{Bool, true, false, ◌||◌, ◌&&◌, not, List, [], ◌∷◌, ◌++◌, ◌≡◌, refl, ℕ, zero, suc, ◌+◌, ◌*◌, ◌%◌, leb, ltb, eqb, ℤ, pos, negsuc, ◌+ℤ◌, length, get_or, set, drop}
-use Rattle.std.proofs.Common.{ap}
+use Rattle.std.specs.Prelude.{Bool, ◌||◌, not, List, [], ◌∷◌, ℕ, zero, suc, ◌+◌, ◌*◌, ◌%◌, eqb, ℤ, pos, negsuc, ◌+ℤ◌, get_or, set}
 use Rattle.std.specs.Int.Signed.{lt_z}
 use Rattle.integer.specs.Order.{if}
 use Rattle.integer.specs.Fill.{tabulate}
@@ -8,8 +7,7 @@ use Rattle.nodes.specs.Nodes.{node_at, then}
 use Rattle.nodes.specs.declared.Node.{Node}
 use Rattle.nodes.specs.declared.Node.TheVariants as node
 use Rattle.nodes.specs.declared.Split.{Split}
-use Rattle.refusal.specs.Paper.{Outcome, gives, refuses, paper, read_back, reads_back, one_answer, one_value}
-use Rattle.validation.specs.Shape.{shape}
+use Rattle.refusal.specs.Paper.{Outcome, gives, refuses}
 
 -- ---- the range of each of the 256 properties, its lowest and its highest value: words 2p and 2p+1 of 512
 

@@ -1,7 +1,4 @@
 -- `agreeing` meets its contract: the least and the most of the three, read back, decide each test.
-use borrow.Author.Rules.{rules}
-use lib.IntN.{pos}
-use lib.Signed.{lt_z}
 use mathlib.Core.Path.{◌≡◌, ◌∙◌}
 use mir.Syntax.{w32, w64}
 use mir.Val.{to_z, of_z}

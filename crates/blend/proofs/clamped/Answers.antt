@@ -1,15 +1,13 @@
 -- `clamped` meets its contract: the least and the most of the three, and between them the prediction.
-use borrow.Author.Rules.{rules}
 use mathlib.Core.Path.{◌≡◌, ◌∙◌}
 use mir.Facts.{to_z-of_z}
 use mir.Syntax.{w32, w64}
 use mir.Val.{to_z, of_z}
 use Prim.Native.Nat.{◌^◌}
-use Rattle.integer.proofs.Bounded.{Below, back, held}
+use Rattle.integer.proofs.Bounded.{Below, held}
 use Rattle.integer.specs.Order.{smaller, larger}
 use Rattle.predict.specs.declared.neighbours.PredictionData.{PredictionData}
 use Rattle.blend.specs.Blend.{eighths, least, most}
-use Rattle.blend.proofs.Bounds.{eighths_below}
 use Rattle.blend.proofs.clamped.Goals as goal
 
 pub returns : goal.returns

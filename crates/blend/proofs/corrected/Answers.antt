@@ -1,5 +1,4 @@
 -- `corrected` meets its contract: each operation carries its bound, and what the code holds is read back.
-use borrow.Author.Rules.{rules}
 use mathlib.Core.Path.{◌≡◌, ◌∙◌}
 use mir.Facts.{to_z-of_z}
 use Prim.Native.Nat.{◌≤◌, ◌^◌}
@@ -7,24 +6,6 @@ use Rattle.integer.proofs.Bounded.{Below, fits, back, of_fits, plus}
 use Rattle.blend.specs.Blend.{eighths}
 use Rattle.blend.proofs.Bounds.{eighths_below, factor_held, three_below, factor_below, share_below, corrected_below}
 use Rattle.blend.proofs.corrected.Goals as goal
-
-pub overflow_add-result : goal.overflow_add-result
-overflow_add-result c =
-    let first : Below (2 ^ 31) c.args.a = of_fits c.ranges.a in
-    let is_first : c.widen-first.result ≡ c.args.a = c.widen-first.ensures ∙ to_z-of_z c.ranges.a in
-    let second : Below (2 ^ 31) c.args.b = of_fits c.ranges.b in
-    let is_second : c.widen-second.result ≡ c.args.b = c.widen-second.ensures ∙ to_z-of_z c.ranges.b in
-    simp (is_first, is_second, back tt first, back tt second) (fits tt (plus first second))
-
-pub overflow_add-result-2 : goal.overflow_add-result-2
-overflow_add-result-2 c =
-    let first : Below (2 ^ 31) c.args.a = of_fits c.ranges.a in
-    let is_first : c.widen-first.result ≡ c.args.a = c.widen-first.ensures ∙ to_z-of_z c.ranges.a in
-    let second : Below (2 ^ 31) c.args.b = of_fits c.ranges.b in
-    let is_second : c.widen-second.result ≡ c.args.b = c.widen-second.ensures ∙ to_z-of_z c.ranges.b in
-    let third : Below (2 ^ 31) c.args.c = of_fits c.ranges.c in
-    let is_third : c.widen-third.result ≡ c.args.c = c.widen-third.ensures ∙ to_z-of_z c.ranges.c in
-    simp (is_first, is_second, is_third, back tt first, back tt second, back tt third, back tt (plus first second)) (fits tt (three_below first second third))
 
 pub overflow_mul-result : goal.overflow_mul-result
 overflow_mul-result c =

@@ -1,17 +1,15 @@
 -- `errors_of` meets its promise: what is within bounds does not wrap before its low word is taken.
-use borrow.Author.Rules.{rules}
 use borrow.Author.Tests.{ltb-true}
-use lib.IntN.{ℤ, pos, ◌-ℤ◌}
+use lib.IntN.{◌-ℤ◌}
 use lib.Signed.{mag}
-use mathlib.Core.Bool.{true, false}
+use mathlib.Core.Bool.{true}
 use mathlib.Core.Path.{◌≡◌, sym, ◌∙◌}
 use mir.Facts.{to_z-of_z}
 use mir.Syntax.{w32, w64}
 use mir.Val.{to_z, of_z}
-use Prim.Native.Nat.{◌+◌, ◌<◌, ◌^◌}
+use Prim.Native.Nat.{◌+◌, ◌^◌}
 use Rattle.integer.proofs.Bounded.{Below, fits, back, held, of_fits, minus}
 use Rattle.integer.specs.Word.{wrap}
-use Rattle.blend.specs.declared.Found.{Found}
 use Rattle.blend.specs.Blend.{eighths, sub_error, possible, errors_of}
 use Rattle.blend.proofs.Bounds.{eighths_below}
 use Rattle.blend.proofs.Range.{all_within}
@@ -76,6 +74,3 @@ returns-then-possible c =
       is_p2,
       is_p3,
     ))
-
-pub returns-else-possible : goal.returns-else-possible
-returns-else-possible c = simp (sym c.possible.ensures ∙ c.if-possible.false)

@@ -1,12 +1,11 @@
 -- `find` meets its contract: the parts by their definitions, none of them beyond its bound.
-use borrow.Author.Rules.{rules}
 use lib.IntN.{ℤ}
 use lib.Signed.{mag}
 use mathlib.Core.Bool.{true, false}
 use mathlib.Core.Path.{◌≡◌, sym, ◌∙◌}
 use mir.Syntax.{w32, w64}
 use mir.Val.{to_z, of_z}
-use Prim.Native.Nat.{ℕ, ◌<◌, ◌^◌}
+use Prim.Native.Nat.{◌<◌, ◌^◌}
 use Rattle.integer.proofs.Bounded.{held, looser}
 use Rattle.predict.specs.declared.neighbours.PredictionData.{PredictionData}
 use Rattle.blend.specs.declared.Found.{Found}

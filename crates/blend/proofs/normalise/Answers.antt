@@ -1,6 +1,4 @@
 -- `normalise` meets its contract: the sum's highest set bit is bit 4 to 29, so the shift is 0 to 25.
-use borrow.Author.Rules.{rules}
-use mathlib.Core.Path.{◌≡◌}
 use native.Mathlib.Omega.{arith}
 use Prim.Native.Nat.{◌-◌, ◌<◌, ◌≤◌}
 use Rattle.blend.specs.Blend.{normalised}

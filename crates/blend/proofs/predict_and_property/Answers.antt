@@ -1,5 +1,4 @@
 -- `predict_and_property` meets its promise: what is found, its guess rounded down, the property; or the header is refused.
-use borrow.Author.Rules.{rules}
 use lib.IntN.{pos, ◌+ℤ◌}
 use lib.Signed.{shr_z}
 use mathlib.Core.Bool.{true}
@@ -7,20 +6,9 @@ use mathlib.Core.Path.{◌≡◌, sym, ◌∙◌}
 use mir.Syntax.{w32}
 use mir.Val.{to_z, of_z}
 use Prim.Native.Nat.{◌+◌, ◌^◌}
-use Rattle.integer.proofs.Bounded.{Below, fits, back, held, literal, plus, shifted}
+use Rattle.integer.proofs.Bounded.{Below, back, held, literal, plus, shifted}
 use Rattle.blend.specs.Blend.{in_range, property_of}
 use Rattle.blend.proofs.predict_and_property.Goals as goal
-
-pub find-found-requires : goal.find-found-requires
-find-found-requires c =
-    let in_range_lem : in_range c.args.header ≡ true = sym c.in_range.ensures ∙ c.if-in_range.true in
-    in_range_lem
-
-pub overflow_add-guess : goal.overflow_add-guess
-overflow_add-guess c =
-    let pred : Below (2 ^ 40) c.find-found.result.pred = record { size = c.find-found.ensures.1 } in
-    let rounded : Below (2 ^ 40 + 4) (c.find-found.result.pred +ℤ pos 3) = plus pred (literal {b = 4} {z = pos 3} tt) in
-    simp (back tt pred) (fits tt rounded)
 
 pub returns-then-in_range : goal.returns-then-in_range
 returns-then-in_range c =
@@ -30,6 +18,3 @@ returns-then-in_range c =
     let guess : Below (2 ^ 40 + 4) (shr_z (c.find-found.result.pred +ℤ pos 3) 8) = shifted 8 rounded in
     let is_property : to_z w32 (of_z w32 c.property-property.result) ≡ property_of c.args.errors = held w32 _ c.property-property.type_inv ∙ c.property-property.ensures in
     simp (in_range_lem, is_property, back tt pred, back tt rounded, back tt guess) (rw c.find-found.ensures.0)
-
-pub returns-else-in_range : goal.returns-else-in_range
-returns-else-in_range c = simp (sym c.in_range.ensures ∙ c.if-in_range.false)

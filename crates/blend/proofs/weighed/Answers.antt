@@ -1,5 +1,4 @@
 -- `weighed` meets its contract: the parts carry their bounds, and what the code holds is read back.
-use borrow.Author.Rules.{rules}
 use lib.IntN.{◌+ℤ◌}
 use lib.Signed.{shr_z}
 use mathlib.Core.Path.{◌≡◌}
@@ -8,7 +7,7 @@ use Prim.Native.Nat.{◌+◌, ◌^◌}
 use Rattle.integer.proofs.Bounded.{Below, fits, back, held, plus, shifted}
 use Rattle.blend.specs.Blend.{eighths}
 use Rattle.blend.proofs.Bounds.{eighths_below, weighed_below}
-use Rattle.blend.proofs.Range.{Ranges, ranges}
+use Rattle.blend.proofs.Range.{ranges}
 use Rattle.blend.proofs.weighed.Goals as goal
 
 pub weighed_errors-by_errors-requires : goal.weighed_errors-by_errors-requires

@@ -1,5 +1,4 @@
 -- `weighed_errors` meets its contract: each product and sum carries its bound, and what the code holds is read back.
-use borrow.Author.Rules.{rules}
 use mathlib.Core.Path.{◌≡◌, ◌∙◌}
 use mir.Syntax.{w32}
 use Prim.Native.Nat.{◌≤◌, ◌^◌}
@@ -7,22 +6,6 @@ use Rattle.integer.proofs.Bounded.{Below, fits, back, held, plus, by_factor}
 use Rattle.blend.specs.declared.TrueErrors.{TrueErrors}
 use Rattle.blend.proofs.Bounds.{factor_held, weighed_errors_below}
 use Rattle.blend.proofs.weighed_errors.Goals as goal
-
-pub overflow_mul-result : goal.overflow_mul-result
-overflow_mul-result c =
-    let e : TrueErrors = c.args.errors in
-    let nw : Below (2 ^ 31) e.nw = record { size = c.struct_told-3-1.given.1.1.0.1 } in
-    let is_nw : c.widen-nw.result ≡ e.nw = c.widen-nw.ensures ∙ held w32 e.nw nw.size in
-    let first : c.args.a ≤ 31 = c.requires.0 in
-    simp (is_nw, back tt nw, factor_held first) (fits tt (by_factor 31 first nw))
-
-pub overflow_mul-result-2 : goal.overflow_mul-result-2
-overflow_mul-result-2 c =
-    let e : TrueErrors = c.args.errors in
-    let n : Below (2 ^ 31) e.n = record { size = c.struct_told-3-1.given.1.0.1 } in
-    let is_n : c.widen-n.result ≡ e.n = c.widen-n.ensures ∙ held w32 e.n n.size in
-    let second : c.args.b ≤ 31 = c.requires.1 in
-    simp (is_n, back tt n, factor_held second) (fits tt (by_factor 31 second n))
 
 pub overflow_add-result : goal.overflow_add-result
 overflow_add-result c =

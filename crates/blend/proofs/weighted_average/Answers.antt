@@ -1,5 +1,4 @@
 -- `weighted_average` meets its contract: the accumulator's sums and its product carry their bounds, and what the code holds is read back.
-use borrow.Author.Rules.{rules}
 use lib.IntN.{pos, ◌+ℤ◌, ◌*ℤ◌}
 use mathlib.Core.Path.{◌≡◌, ◌∙◌}
 use mir.Facts.{to_z-of_z, to_z_pos}
@@ -18,32 +17,6 @@ use Rattle.blend.proofs.weighted_average.Goals as goal
 small_held : (n : ℕ) → n < 2 ^ 32 → to_z w64 n ≡ pos n
 small_held n h = let low : n < 2 ^ 63 = omega (arith, h) in to_z_pos w64 low
 
-pub overflow_mul-sum : goal.overflow_mul-sum
-overflow_mul-sum c =
-    let w : Four = c.args.weights in
-    let p0 : to_z w64 (of_z w64 c.args.p0) ≡ c.args.p0 = to_z-of_z c.ranges.p0 in
-    let w0 : to_z w64 w.e0 ≡ pos w.e0 = small_held w.e0 (omega (arith, c.requires.2)) in
-    let q0 : w.e0 ≤ 31 = omega (arith, c.requires.2) in
-    simp (p0, w0) (fits tt (part_below w c.requires.2 c.args.p0 c.args.p1 c.args.p2 c.args.p3 c.requires.0 w.e0 c.args.p0 q0 c.requires.0.small0))
-
-pub overflow_add-sum : goal.overflow_add-sum
-overflow_add-sum c =
-    let w : Four = c.args.weights in
-    let start : to_z w64 (total w / 2 - 1) ≡ pos (total w / 2 - 1) = small_held (total w / 2 - 1) (omega (arith, c.requires.2)) in
-    let p0 : to_z w64 (of_z w64 c.args.p0) ≡ c.args.p0 = to_z-of_z c.ranges.p0 in
-    let w0 : to_z w64 w.e0 ≡ pos w.e0 = small_held w.e0 (omega (arith, c.requires.2)) in
-    let q0 : w.e0 ≤ 31 = omega (arith, c.requires.2) in
-    let held_part_0 : to_z w64 (of_z w64 (c.args.p0 *ℤ pos w.e0)) ≡ c.args.p0 *ℤ pos w.e0 = back tt (part_below w c.requires.2 c.args.p0 c.args.p1 c.args.p2 c.args.p3 c.requires.0 w.e0 c.args.p0 q0 c.requires.0.small0) in
-    simp (start, p0, w0, held_part_0) (fits tt (first_below w c.requires.2 c.args.p0 c.args.p1 c.args.p2 c.args.p3 c.requires.0))
-
-pub overflow_mul-sum-2 : goal.overflow_mul-sum-2
-overflow_mul-sum-2 c =
-    let w : Four = c.args.weights in
-    let p1 : to_z w64 (of_z w64 c.args.p1) ≡ c.args.p1 = to_z-of_z c.ranges.p1 in
-    let w1 : to_z w64 w.e1 ≡ pos w.e1 = small_held w.e1 (omega (arith, c.requires.2)) in
-    let q1 : w.e1 ≤ 31 = omega (arith, c.requires.2) in
-    simp (p1, w1) (fits tt (part_below w c.requires.2 c.args.p0 c.args.p1 c.args.p2 c.args.p3 c.requires.0 w.e1 c.args.p1 q1 c.requires.0.small1))
-
 pub overflow_add-sum-2 : goal.overflow_add-sum-2
 overflow_add-sum-2 c =
     let w : Four = c.args.weights in
@@ -58,14 +31,6 @@ overflow_add-sum-2 c =
     let held_part_1 : to_z w64 (of_z w64 (c.args.p1 *ℤ pos w.e1)) ≡ c.args.p1 *ℤ pos w.e1 = back tt (part_below w c.requires.2 c.args.p0 c.args.p1 c.args.p2 c.args.p3 c.requires.0 w.e1 c.args.p1 q1 c.requires.0.small1) in
     let held_first : to_z w64 (of_z w64 (pos (total w / 2 - 1) +ℤ c.args.p0 *ℤ pos w.e0)) ≡ pos (total w / 2 - 1) +ℤ c.args.p0 *ℤ pos w.e0 = back tt (first_below w c.requires.2 c.args.p0 c.args.p1 c.args.p2 c.args.p3 c.requires.0) in
     simp (start, p0, w0, held_part_0, p1, w1, held_part_1, held_first) (fits tt (second_below w c.requires.2 c.args.p0 c.args.p1 c.args.p2 c.args.p3 c.requires.0))
-
-pub overflow_mul-sum-3 : goal.overflow_mul-sum-3
-overflow_mul-sum-3 c =
-    let w : Four = c.args.weights in
-    let p2 : to_z w64 (of_z w64 c.args.p2) ≡ c.args.p2 = to_z-of_z c.ranges.p2 in
-    let w2 : to_z w64 w.e2 ≡ pos w.e2 = small_held w.e2 (omega (arith, c.requires.2)) in
-    let q2 : w.e2 ≤ 31 = omega (arith, c.requires.2) in
-    simp (p2, w2) (fits tt (part_below w c.requires.2 c.args.p0 c.args.p1 c.args.p2 c.args.p3 c.requires.0 w.e2 c.args.p2 q2 c.requires.0.small2))
 
 pub overflow_add-sum-3 : goal.overflow_add-sum-3
 overflow_add-sum-3 c =
@@ -86,14 +51,6 @@ overflow_add-sum-3 c =
     let held_first : to_z w64 (of_z w64 (pos (total w / 2 - 1) +ℤ c.args.p0 *ℤ pos w.e0)) ≡ pos (total w / 2 - 1) +ℤ c.args.p0 *ℤ pos w.e0 = back tt (first_below w c.requires.2 c.args.p0 c.args.p1 c.args.p2 c.args.p3 c.requires.0) in
     let held_second : to_z w64 (of_z w64 (pos (total w / 2 - 1) +ℤ c.args.p0 *ℤ pos w.e0 +ℤ c.args.p1 *ℤ pos w.e1)) ≡ pos (total w / 2 - 1) +ℤ c.args.p0 *ℤ pos w.e0 +ℤ c.args.p1 *ℤ pos w.e1 = back tt (second_below w c.requires.2 c.args.p0 c.args.p1 c.args.p2 c.args.p3 c.requires.0) in
     simp (start, p0, w0, held_part_0, p1, w1, held_part_1, p2, w2, held_part_2, held_first, held_second) (fits tt (third_below w c.requires.2 c.args.p0 c.args.p1 c.args.p2 c.args.p3 c.requires.0))
-
-pub overflow_mul-sum-4 : goal.overflow_mul-sum-4
-overflow_mul-sum-4 c =
-    let w : Four = c.args.weights in
-    let p3 : to_z w64 (of_z w64 c.args.p3) ≡ c.args.p3 = to_z-of_z c.ranges.p3 in
-    let w3 : to_z w64 w.e3 ≡ pos w.e3 = small_held w.e3 (omega (arith, c.requires.2)) in
-    let q3 : w.e3 ≤ 31 = omega (arith, c.requires.2) in
-    simp (p3, w3) (fits tt (part_below w c.requires.2 c.args.p0 c.args.p1 c.args.p2 c.args.p3 c.requires.0 w.e3 c.args.p3 q3 c.requires.0.small3))
 
 pub overflow_add-sum-4 : goal.overflow_add-sum-4
 overflow_add-sum-4 c =

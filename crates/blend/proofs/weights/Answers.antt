@@ -1,10 +1,9 @@
 -- `weights` meets its contract: w values of at most 15 are not refused.
-use borrow.Author.Rules.{rules}
 use borrow.Author.Tests.{le-ltb}
 use mathlib.Core.Path.{◌≡◌, sym, ap, ◌∙◌}
 use Rattle.arith.specs.Weights.{error_weights, said_weights}
 use Rattle.arith.specs.declared.Four.{Four}
-use Rattle.refusal.proofs.Outcomes.{same_given, no_refusal}
+use Rattle.refusal.proofs.Outcomes.{no_refusal}
 use Rattle.refusal.specs.Paper.{gives}
 use Rattle.blend.specs.declared.WeightedHeader.{WeightedHeader}
 use Rattle.blend.specs.Blend.{maxweights, weights_for}
@@ -13,10 +12,6 @@ use Rattle.blend.proofs.weights.Goals as goal
 
 given : (h : WeightedHeader) (s : Four) → Ranges h → error_weights s (maxweights h) ≡ gives (weights_for h s)
 given h s r = simp (le-ltb 15 h.w0 r.w0_range, le-ltb 15 h.w1 r.w1_range, le-ltb 15 h.w2 r.w2_range, le-ltb 15 h.w3 r.w3_range)
-
-pub returns-in-Are : goal.returns-in-Are
-returns-in-Are c =
-    same_given (sym (ap said_weights c.in-Are.is) ∙ c.error_weights-weighed.ensures ∙ given c.args.header c.args.sums (ranges _ c.requires))
 
 pub returns-in-Refused : goal.returns-in-Refused
 returns-in-Refused c =

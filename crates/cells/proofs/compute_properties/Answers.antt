@@ -1,6 +1,5 @@
 -- `compute_properties` meets its promise: each test decides one part of the outcome, and past them the groups are filled.
-use borrow.Author.Rules.{rules}
-use borrow.Author.Tests.{ltb-true, leb-true, lt-ltb, le-ltb}
+use borrow.Author.Tests.{ltb-true, leb-true, le-ltb}
 use lib.Dec.{ltb, leb}
 use lib.IntN.{ℤ}
 use lib.ListN.{length}
@@ -15,7 +14,7 @@ use Rattle.integer.specs.Order.{if}
 use Rattle.predict.specs.declared.neighbours.PredictionData.{PredictionData}
 use Rattle.refusal.specs.Paper.{Outcome, gives}
 use Rattle.cells.specs.declared.Filled.TheVariants.{Done}
-use Rattle.cells.specs.Cells.{uses, in_domain, cells_needed, outcome, filled_cells, after, Fills}
+use Rattle.cells.specs.Cells.{in_domain, cells_needed, outcome, filled_cells, after, Fills}
 use Rattle.cells.proofs.compute_properties.Goals as goal
 
 module _ (x y needed : ℕ) (is : in_domain x y needed ≡ true) where
@@ -40,32 +39,6 @@ done : (mask x y : ℕ) (d : PredictionData) (property : ℤ) (references cells 
 done mask x y d property references cells is filled =
     record { answers = sym is; holds = filled ∙ sym (ap (λ (o : Outcome Unit). after (filled_cells mask x y d property references cells) o cells) is) }
 
-pub overflow_cast-result : goal.overflow_cast-result
-overflow_cast-result c =
-    let needs_cells : ℕ = c.cells_needed-needed.result in
-    let inside : in_domain c.args.x c.args.y needs_cells ≡ true = sym c.in_domain.ensures ∙ c.if-in_domain.true in
-    omega (arith, sayable c.args.x c.args.y needs_cells inside)
-
-pub returns-then-cells-needed : goal.returns-then-cells-needed
-returns-then-cells-needed c =
-    let needs_cells : ℕ = c.cells_needed-needed.result in
-    let is_needed : cells_needed c.args.mask (length c.args.references.now) ≡ needs_cells = sym c.cells_needed-needed.ensures in
-    let inside : in_domain c.args.x c.args.y needs_cells ≡ true = sym c.in_domain.ensures ∙ c.if-in_domain.true in
-    let lacks = lt-ltb _ _ c.if-cells-needed.true in
-    record { answers = simp (is_needed, inside, lacks); holds = simp (is_needed, inside, lacks) }
-
-pub fill_all-requires : goal.fill_all-requires
-fill_all-requires c =
-    let needs_cells : ℕ = c.cells_needed-needed.result in
-    let is_needed : cells_needed c.args.mask (length c.args.references.now) ≡ needs_cells = sym c.cells_needed-needed.ensures in
-    let inside : in_domain c.args.x c.args.y needs_cells ≡ true = sym c.in_domain.ensures ∙ c.if-in_domain.true in
-    let room : cells_needed c.args.mask (length c.args.references.now) ≤ length c.args.cells.now = omega (arith, is_needed, c.if-cells-needed.false) in (
-      column c.args.x c.args.y needs_cells inside,
-      row c.args.x c.args.y needs_cells inside,
-      omega (arith, room, least (uses c.args.mask 16 16) (length c.args.references.now)),
-      room,
-    )
-
 pub returns-else-cells-needed : goal.returns-else-cells-needed
 returns-else-cells-needed c =
     let needs_cells : ℕ = c.cells_needed-needed.result in
@@ -75,10 +48,3 @@ returns-else-cells-needed c =
     let passed : outcome c.args.mask c.args.x c.args.y (length c.args.references.now) (length c.args.cells.now) ≡ gives tt = simp (is_needed, inside, le-ltb _ _ c.if-cells-needed.false) in
     let filled = simp (to_z-of_z c.ranges.wp_property) at c.fill_all.ensures in
     done c.args.mask c.args.x c.args.y c.args.«data» c.args.wp_property c.args.references.now c.args.cells.now passed filled
-
-pub returns-else-in_domain : goal.returns-else-in_domain
-returns-else-in_domain c =
-    let needs_cells : ℕ = c.cells_needed-needed.result in
-    let is_needed : cells_needed c.args.mask (length c.args.references.now) ≡ needs_cells = sym c.cells_needed-needed.ensures in
-    let no = sym c.in_domain.ensures ∙ c.if-in_domain.false in
-    record { answers = simp (is_needed, no); holds = simp (is_needed, no) }

@@ -1,14 +1,13 @@
 -- `copy` meets its contract. The loop's invariant: i words are copied, the rest are as they were.
-use borrow.Author.Rules.{rules}
 use lib.IntN.{ℤ, pos}
 use lib.ListN.{length, get_or}
 use mathlib.Core.List.{List}
 use mathlib.Core.Path.{◌≡◌, sym, ap, ◌∙◌}
 use mir.Syntax.{w32}
 use native.Mathlib.Omega.{arith}
-use Prim.Native.Nat.{ℕ, ◌-◌, ◌≤◌, ◌<◌}
+use Prim.Native.Nat.{ℕ, ◌<◌}
 use Rattle.integer.proofs.Bounded.{held}
-use Rattle.integer.proofs.Fill.{filled_none, filled_more, filled_length, filled_all, tabulate_self}
+use Rattle.integer.proofs.Fill.{filled_none, filled_more, filled_all, tabulate_self}
 use Rattle.integer.specs.Fill.{filled}
 use Rattle.cells.proofs.copy.Goals as goal
 
@@ -18,31 +17,10 @@ cell from k = get_or from k (pos 0)
 pub loop-i-init : goal.loop-i-init
 loop-i-init c = (omega arith, sym (filled_none _ _))
 
-pub offset_bounds-to-i : goal.offset_bounds-to-i
-offset_bounds-to-i c =
-    let long : length c.loop-i.to ≡ length c.args.to.now =
-    let within : c.loop-i.i ≤ length c.args.to.now = omega (arith, c.requires, c.loop-i.invariant.0) in
-    ap length c.loop-i.invariant.1 ∙ filled_length _ _ _ within in
-    omega (arith, long, c.requires)
-
-pub bounds-to-i : goal.bounds-to-i
-bounds-to-i c =
-    let long : length c.loop-i.to ≡ length c.args.to.now =
-    let within : c.loop-i.i ≤ length c.args.to.now = omega (arith, c.requires, c.loop-i.invariant.0) in
-    ap length c.loop-i.invariant.1 ∙ filled_length _ _ _ within in
-    omega (arith, long, c.requires)
-
 pub loop-i-preserved : goal.loop-i-preserved
 loop-i-preserved c =
     let below : c.loop-i.i < length c.args.to.now = omega (arith, c.requires, c.loop-i-test.true) in
     (omega arith, simp (held w32 (cell c.args.from.now c.loop-i.i) c.word-1.given) (rw c.loop-i.invariant.1 (filled_more _ _ _ below)))
-
-pub shape_of-to : goal.shape_of-to
-shape_of-to c =
-    let long : length c.loop-i.to ≡ length c.args.to.now =
-    let within : c.loop-i.i ≤ length c.args.to.now = omega (arith, c.requires, c.loop-i.invariant.0) in
-    ap length c.loop-i.invariant.1 ∙ filled_length _ _ _ within in
-    long
 
 pub returns : goal.returns
 returns c =

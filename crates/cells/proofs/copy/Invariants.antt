@@ -1,14 +1,9 @@
 -- `copy` meets its contract. The loop's invariant: i words are copied, the rest are as they were.
-use borrow.Author.Rules.{rules}
 use lib.IntN.{ℤ, pos}
 use lib.ListN.{length, get_or}
 use mathlib.Core.List.{List}
-use mathlib.Core.Path.{◌≡◌, sym, ap, ◌∙◌}
-use mir.Syntax.{w32}
-use native.Mathlib.Omega.{arith}
-use Prim.Native.Nat.{ℕ, ◌-◌, ◌≤◌, ◌<◌}
-use Rattle.integer.proofs.Bounded.{held}
-use Rattle.integer.proofs.Fill.{filled_none, filled_more, filled_length, filled_all, tabulate_self}
+use mathlib.Core.Path.{◌≡◌}
+use Prim.Native.Nat.{ℕ, ◌-◌, ◌≤◌}
 use Rattle.integer.specs.Fill.{filled}
 use Rattle.cells.proofs.copy.Given as goal
 

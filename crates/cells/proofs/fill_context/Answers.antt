@@ -1,34 +1,13 @@
 -- `fill_context` meets its contract: five differences, five stores.
-use borrow.Author.Rules.{rules}
-use borrow.Author.Tests.{eq-eqb, ne_eqb}
+use borrow.Author.Tests.{ne_eqb}
 use lib.IntN.{◌-ℤ◌}
-use lib.ListN.{length-set}
 use mathlib.Core.Path.{◌≡◌, ◌∙◌}
 use mir.Syntax.{w32}
 use mir.Val.{to_z, of_z}
-use native.Mathlib.Omega.{arith}
 use Rattle.integer.proofs.Bounded.{held}
 use Rattle.integer.specs.Word.{wrap}
 use Rattle.predict.specs.declared.neighbours.PredictionData.{PredictionData}
 use Rattle.cells.proofs.fill_context.Goals as goal
-
-pub bounds-cells-10 : goal.bounds-cells-10
-bounds-cells-10 c = omega (arith, c.requires)
-
-pub bounds-cells-11 : goal.bounds-cells-11
-bounds-cells-11 c = simp length-set (omega (arith, c.requires))
-
-pub bounds-cells-12 : goal.bounds-cells-12
-bounds-cells-12 c = simp length-set (omega (arith, c.requires))
-
-pub bounds-cells-13 : goal.bounds-cells-13
-bounds-cells-13 c = simp length-set (omega (arith, c.requires))
-
-pub bounds-cells-14 : goal.bounds-cells-14
-bounds-cells-14 c = simp length-set (omega (arith, c.requires))
-
-pub shape_of-cells : goal.shape_of-cells
-shape_of-cells c = simp length-set
 
 pub returns-then-mask-ne0 : goal.returns-then-mask-ne0
 returns-then-mask-ne0 c =
@@ -45,6 +24,3 @@ returns-then-mask-ne0 c =
     let hold_leftleft : to_z w32 (of_z w32 d.leftleft) ≡ d.leftleft = held w32 _ c.struct_told-then-mask-ne0-9-1.given.1.1.1.1.1.0.1 in
     let fourteen : to_z w32 (of_z w32 c.wrapping_sub-fourteen.result) ≡ wrap (d.left -ℤ d.leftleft) = held w32 _ c.wrapping_sub-fourteen.type_inv ∙ (simp (hold_left, hold_leftleft) at c.wrapping_sub-fourteen.ensures) in
     simp (ne_eqb _ _ c.if-mask-ne0.true, ten, eleven, twelve, thirteen, fourteen)
-
-pub returns-else-mask-ne0 : goal.returns-else-mask-ne0
-returns-else-mask-ne0 c = simp (eq-eqb _ _ c.if-mask-ne0.false)

@@ -1,28 +1,14 @@
 -- `fill_gradient` meets its contract: cell 8 is taken from the old cell 9, before that is written.
-use borrow.Author.Rules.{rules}
-use borrow.Author.Tests.{eq-eqb, ne_eqb}
+use borrow.Author.Tests.{ne_eqb}
 use lib.IntN.{pos, ◌+ℤ◌, ◌-ℤ◌}
-use lib.ListN.{get_or, length-set}
+use lib.ListN.{get_or}
 use mathlib.Core.Path.{◌≡◌, ◌∙◌}
 use mir.Syntax.{w32}
 use mir.Val.{to_z, of_z}
-use native.Mathlib.Omega.{arith}
 use Rattle.integer.proofs.Bounded.{held}
 use Rattle.integer.specs.Word.{wrap}
 use Rattle.predict.specs.declared.neighbours.PredictionData.{PredictionData}
 use Rattle.cells.proofs.fill_gradient.Goals as goal
-
-pub slice_copy_out-wrapping_sub : goal.slice_copy_out-wrapping_sub
-slice_copy_out-wrapping_sub c = omega (arith, c.requires)
-
-pub bounds-cells-8 : goal.bounds-cells-8
-bounds-cells-8 c = omega (arith, c.requires)
-
-pub bounds-cells-9 : goal.bounds-cells-9
-bounds-cells-9 c = simp length-set (omega (arith, c.requires))
-
-pub shape_of-cells : goal.shape_of-cells
-shape_of-cells c = simp length-set
 
 pub returns-then-mask-ne0 : goal.returns-then-mask-ne0
 returns-then-mask-ne0 c =
@@ -35,6 +21,3 @@ returns-then-mask-ne0 c =
     let hold_old : to_z w32 (of_z w32 (get_or c.args.cells.now 9 (pos 0))) ≡ get_or c.args.cells.now 9 (pos 0) = held w32 _ c.wrapping_sub-arg-1.given in
     let step : to_z w32 (of_z w32 c.wrapping_sub-step.result) ≡ wrap (d.left -ℤ get_or c.args.cells.now 9 (pos 0)) = held w32 _ c.wrapping_sub-step.type_inv ∙ (simp (hold_left, hold_old) at c.wrapping_sub-step.ensures) in
     simp (ne_eqb _ _ c.if-mask-ne0.true, gradient, step)
-
-pub returns-else-mask-ne0 : goal.returns-else-mask-ne0
-returns-else-mask-ne0 c = simp (eq-eqb _ _ c.if-mask-ne0.false)

@@ -1,11 +1,10 @@
 -- `fill_references` meets its contract: the part from 16 on becomes the row.
-use borrow.Author.Rules.{rules}
-use borrow.Author.Tests.{eq-eqb, ne_eqb}
+use borrow.Author.Tests.{ne_eqb}
 use lib.ListN.{length}
 use lib.Seq.{drop-drop}
 use mathlib.Core.Path.{◌≡◌}
 use native.Mathlib.Omega.{arith}
-use Prim.Native.Nat.{◌+◌, ◌-◌, ◌≤◌}
+use Prim.Native.Nat.{◌+◌, ◌-◌}
 use Rattle.cells.proofs.fill_references.Goals as goal
 
 pub returns-then-mask-ne0 : goal.returns-then-mask-ne0
@@ -13,6 +12,3 @@ returns-then-mask-ne0 c =
     let n = length c.args.references.now in
     let size : 16 + n - 16 ≡ n = omega arith in
     simp (ne_eqb _ _ c.if-mask-ne0.true) (rw (c.copy.ensures, size, drop-drop n 16 c.args.cells.now))
-
-pub returns-else-mask-ne0 : goal.returns-else-mask-ne0
-returns-else-mask-ne0 c = simp (eq-eqb _ _ c.if-mask-ne0.false)

@@ -1,5 +1,4 @@
 -- `read_node` meets its promise: each test decides one part of a node's form.
-use borrow.Author.Rules.{rules}
 use borrow.Author.Tests.{lt-ltb, le-ltb, le-leb, lt-leb, eq-eqb, ne_eqb}
 use lib.Dec.{ltb}
 use lib.IntN.{ℤ}

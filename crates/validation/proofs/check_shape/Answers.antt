@@ -1,14 +1,9 @@
 -- `check_shape` meets its promise: 1 and 2, then the places.
-use borrow.Author.Rules.{rules}
-use lib.IntN.{ℤ}
-use lib.ListN.{length}
-use mathlib.Core.List.{List}
 use mathlib.Core.Path.{◌≡◌, sym, ap, ◌∙◌}
 use native.Mathlib.Omega.{arith}
-use Prim.Native.Nat.{ℕ, ◌*◌, ◌≤◌}
 use Rattle.nodes.proofs.Lists.{counted_fits}
 use Rattle.nodes.specs.Nodes.{counted, said_count}
-use Rattle.refusal.specs.Paper.{Outcome, gives}
+use Rattle.refusal.specs.Paper.{gives}
 use Rattle.validation.specs.Shape.{shape_by}
 use Rattle.validation.proofs.check_shape.Goals as goal
 

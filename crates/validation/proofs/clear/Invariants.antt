@@ -1,10 +1,7 @@
 -- `clear` meets its contract. The loop's invariant: i words are zero, the rest are as they were.
 use lib.IntN.{pos}
-use lib.ListN.{length}
-use mathlib.Core.Path.{◌≡◌, sym, ap, ◌∙◌}
-use native.Mathlib.Omega.{arith}
-use Prim.Native.Nat.{◌≤◌, ◌<◌, ◌-◌}
-use Rattle.integer.proofs.Fill.{filled_none, filled_more, filled_length}
+use mathlib.Core.Path.{◌≡◌}
+use Prim.Native.Nat.{◌≤◌, ◌-◌}
 use Rattle.integer.specs.Fill.{filled}
 use Rattle.validation.proofs.clear.Given as goal
 

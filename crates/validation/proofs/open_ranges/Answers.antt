@@ -2,11 +2,10 @@
 use lib.ListN.{length}
 use mathlib.Core.Path.{◌≡◌, sym, ap, ◌∙◌}
 use native.Mathlib.Omega.{arith}
-use Prim.Native.Nat.{◌≤◌, ◌<◌, ◌-◌}
+use Prim.Native.Nat.{◌≤◌, ◌<◌}
 use mir.Syntax.{w32}
 use Rattle.integer.proofs.Bounded.{held}
 use Rattle.integer.proofs.Fill.{filled_none, filled_more, filled_length}
-use Rattle.integer.specs.Fill.{filled}
 use Rattle.validation.specs.Visit.{widest}
 use Rattle.validation.proofs.open_ranges.Goals as goal
 

@@ -1,11 +1,6 @@
 -- `open_ranges` meets its contract. The loop's invariant: i ends are written, the rest are as they were.
-use lib.ListN.{length}
-use mathlib.Core.Path.{◌≡◌, sym, ap, ◌∙◌}
-use native.Mathlib.Omega.{arith}
-use Prim.Native.Nat.{◌≤◌, ◌<◌, ◌-◌}
-use mir.Syntax.{w32}
-use Rattle.integer.proofs.Bounded.{held}
-use Rattle.integer.proofs.Fill.{filled_none, filled_more, filled_length}
+use mathlib.Core.Path.{◌≡◌}
+use Prim.Native.Nat.{◌≤◌, ◌-◌}
 use Rattle.integer.specs.Fill.{filled}
 use Rattle.validation.specs.Visit.{widest}
 use Rattle.validation.proofs.open_ranges.Given as goal

@@ -1,10 +1,6 @@
 -- `validate_tree` meets its promise: each way out is one of `Answers`.
-use borrow.Author.Rules.{rules}
-use lib.IntN.{ℤ}
-use lib.ListN.{length}
 use mathlib.Core.Path.{◌≡◌, sym, ap, ◌∙◌}
 use native.Mathlib.Omega.{arith}
-use Prim.Native.Nat.{ℕ}
 use Rattle.refusal.specs.Paper.{gives}
 use Rattle.validation.specs.Shape.{shape}
 use Rattle.validation.specs.Verdict.{said_verdict}

@@ -1,11 +1,8 @@
 -- `visit_and_clear` meets its contract: the ranges are opened, the visit keeps what lies beyond, and the rest is cleared.
-use borrow.Author.Rules.{rules}
-use lib.IntN.{ℤ, pos}
-use lib.ListN.{length, drop}
-use mathlib.Core.List.{List}
-use mathlib.Core.Path.{◌≡◌, sym, ap, ◌∙◌}
+use lib.IntN.{pos}
+use lib.ListN.{drop}
+use mathlib.Core.Path.{ap, ◌∙◌}
 use native.Mathlib.Omega.{arith}
-use Prim.Native.Nat.{ℕ}
 use Rattle.validation.specs.Frames.{ranges}
 use Rattle.validation.specs.Visit.{widest}
 use Rattle.validation.proofs.Answers.{opened, beyond_filled, filled_alike}

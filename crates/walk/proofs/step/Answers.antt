@@ -1,5 +1,4 @@
 -- `step` meets its contract: each test decides one refusal, and the last one the child.
-use borrow.Author.Rules.{rules}
 use borrow.Author.Tests.{lt-ltb, le-ltb}
 use mathlib.Core.Bool.{true, false}
 use mathlib.Core.Path.{◌≡◌, sym, ◌∙◌}
@@ -11,7 +10,6 @@ use lib.Signed.{lt_z}
 use mir.Syntax.{w32}
 use mir.Val.{to_z, of_z}
 use Rattle.integer.proofs.Bounded.{held}
-use Rattle.integer.proofs.Tests.{was_false, was_true}
 use Rattle.nodes.specs.Nodes.{word}
 use Rattle.nodes.specs.declared.Split.{Split}
 use Rattle.walk.specs.Walk.{step_of, in_order}

@@ -1,5 +1,4 @@
 -- `walk` meets its contract. The loop's invariant: the walk from the place on is the whole walk.
-use borrow.Author.Rules.{rules}
 use mathlib.Core.Path.{◌≡◌, sym, ap, ◌∙◌}
 use mathlib.Core.List.{List}
 use lib.IntN.{ℤ}
@@ -22,11 +21,6 @@ use Rattle.walk.specs.declared.PredictionResult.{PredictionResult}
 use Rattle.walk.proofs.Five.{own_words}
 use Rattle.walk.proofs.Turn.{leads_on, turn}
 use Rattle.walk.proofs.walk.Goals as goal
-
-pub loop-refusal-init : goal.loop-refusal-init
-loop-refusal-init c =
-    let full : c.args.n - 0 ≡ c.args.n = omega arith in
-    (c.requires.0, omega arith, rw full)
 
 pub step-next-requires : goal.step-next-requires
 step-next-requires c =

@@ -1,10 +1,8 @@
 -- `possible` meets its promise: each test decides one part.
-use borrow.Author.Rules.{rules}
-use mathlib.Core.Bool.{true, false, and-false}
+use mathlib.Core.Bool.{and-false}
 use mathlib.Core.Path.{◌≡◌, sym, ◌∙◌}
 use mir.Syntax.{w64}
 use Rattle.integer.proofs.Bounded.{held}
-use Rattle.integer.proofs.Tests.{was_false, was_true}
 use Rattle.blend.specs.Blend.{within, possible}
 use Rattle.blend.proofs.Found.possible.Goals as goal
 

@@ -1,12 +1,10 @@
 -- `mask_of` meets its contract: the bits of the first k nodes are gathered, and the first refusal stands.
-use borrow.Author.Rules.{rules}
 use lib.IntN.{ℤ}
 use mathlib.Core.List.{List}
-use mathlib.Core.Path.{◌≡◌, refl, sym, ◌∙◌}
+use mathlib.Core.Path.{◌≡◌, sym, ◌∙◌}
 use native.Mathlib.Decide.{le_ind}
-use native.Mathlib.Numerals.{add-one}
 use native.Mathlib.Omega.{arith}
-use Prim.Native.Nat.{ℕ, suc, ◌-◌, ◌*◌, ◌≤◌}
+use Prim.Native.Nat.{ℕ, suc, ◌*◌, ◌≤◌}
 use Rattle.refusal.specs.Paper.{gives, refuses}
 use Rattle.nodes.specs.Mask.{mask_up_to, with_node}
 use Rattle.nodes.specs.Nodes.{node_at, said}
@@ -18,9 +16,6 @@ stays : (words : List ℤ) (k n : ℕ) {number : ℕ} {details : List ℤ} → m
 stays words k n {number} {details} e h =
     le_ind (λ (m : ℕ). mask_up_to words m ≡ refuses number details) e (λ m l same. rw same) n h
 
-pub loop-k-init : goal.loop-k-init
-loop-k-init c = (omega arith, refl)
-
 pub returns-in-Refused : goal.returns-in-Refused
 returns-in-Refused c =
     let given : List ℤ = c.args.words.now in
@@ -28,16 +23,3 @@ returns-in-Refused c =
     let is_node : said c.read_node-read.result ≡ node_at given at = simp (rest given (5 * at)) at c.read_node-read.ensures in
     let more : mask_up_to given (suc at) ≡ with_node (gives c.loop-k.mask) (said c.read_node-read.result) = rw (c.loop-k.invariant.1, is_node) in
     sym (stays given (suc at) c.args.nodes (more ∙ (rw c.in-Refused.is)) (omega arith))
-
-pub loop-k-preserved : goal.loop-k-preserved
-loop-k-preserved c =
-    let given : List ℤ = c.args.words.now in
-    let at : ℕ = c.loop-k.k in
-    let is_node : said c.read_node-read.result ≡ node_at given at = simp (rest given (5 * at)) at c.read_node-read.ensures in
-    let more : mask_up_to given (suc at) ≡ with_node (gives c.loop-k.mask) (said c.read_node-read.result) = rw (c.loop-k.invariant.1, is_node) in
-    (search rules, rw add-one (more ∙ rw (c.in-Is.is, c.bits_of_node-mask.ensures)))
-
-pub returns : goal.returns
-returns c =
-    let end : c.args.nodes ≡ c.loop-k.k = omega arith in
-    rw (end, c.loop-k.invariant.1)

@@ -6,7 +6,7 @@ use mathlib.Core.List.{List}
 use mathlib.Core.Path.{◌≡◌, sym, ap, ◌∙◌}
 use native.Mathlib.Numerals.{add-one}
 use native.Mathlib.Omega.{arith}
-use Prim.Native.Nat.{ℕ, suc, ◌+◌, ◌-◌, ◌≤◌}
+use Prim.Native.Nat.{ℕ, suc, ◌+◌}
 use Rattle.refusal.specs.Paper.{gives}
 use Rattle.nodes.specs.Nodes.{node_at}
 use Rattle.validation.specs.Shape.{placed, splits_in, splits_before, first_fault, splits_with}

@@ -1,18 +1,8 @@
 -- `check_nodes` meets its contract. The loop's invariant: no fault so far, and the splits so far are counted.
-use borrow.Author.Rules.{rules}
-use borrow.Author.Tests.{le-leb, lt-leb, eq-eqb, ne_eqb}
-use lib.IntN.{ℤ}
-use mathlib.Core.List.{List}
-use mathlib.Core.Path.{◌≡◌, sym, ap, ◌∙◌}
-use native.Mathlib.Numerals.{add-one}
-use native.Mathlib.Omega.{arith}
-use Prim.Native.Nat.{ℕ, suc, ◌+◌, ◌-◌, ◌≤◌}
+use mathlib.Core.Path.{◌≡◌}
+use Prim.Native.Nat.{◌-◌, ◌≤◌}
 use Rattle.refusal.specs.Paper.{gives}
-use Rattle.nodes.specs.Nodes.{node_at}
-use Rattle.validation.specs.Shape.{placed, splits_in, splits_before, first_fault, splits_with}
-use Rattle.validation.specs.Verdict.{said_placed}
-use Rattle.validation.proofs.Faults.{placed_well, placed_ill, next_splits, next_fault, fault_stays}
-use Rattle.validation.proofs.Sound.{at_most_one}
+use Rattle.validation.specs.Shape.{splits_before, first_fault}
 use Rattle.validation.proofs.shape.check_nodes.Given as goal
 
 abbrev pub invariant-loop-place : goal.invariant-loop-place

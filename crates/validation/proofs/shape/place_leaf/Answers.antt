@@ -1,5 +1,4 @@
 -- `place_leaf` meets its contract.
-use borrow.Author.Rules.{rules}
 use borrow.Author.Tests.{le-leb, lt-leb}
 use Rattle.validation.proofs.shape.place_leaf.Goals as goal
 

@@ -1,5 +1,4 @@
 -- `place_split` meets its contract: each test is one part of what is asked of a split.
-use borrow.Author.Rules.{rules}
 use borrow.Author.Tests.{le-leb, lt-leb, eq-eqb, ne_eqb}
 use Rattle.validation.proofs.shape.place_split.Goals as goal
 

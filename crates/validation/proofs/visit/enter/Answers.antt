@@ -1,12 +1,8 @@
 -- `enter` meets its contract: the node that is read decides.
-use borrow.Author.Rules.{rules}
-use borrow.Author.Tests.{le-leb, lt-leb}
 use lib.IntN.{ℤ}
-use lib.ListN.{length}
 use mathlib.Core.List.{List}
 use mathlib.Core.Path.{◌≡◌, sym, ◌∙◌, ap}
-use native.Mathlib.Omega.{arith}
-use Prim.Native.Nat.{ℕ, ◌*◌, ◌≤◌}
+use Prim.Native.Nat.{◌*◌}
 use Rattle.nodes.proofs.Lists.{rest}
 use Rattle.nodes.proofs.Read.{property_small}
 use Rattle.nodes.specs.Nodes.{node_at, said}

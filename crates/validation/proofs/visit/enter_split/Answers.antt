@@ -1,17 +1,16 @@
 -- `enter_split` meets its contract: the range is read, its sides are tested, and the frame is written above all frames in use.
-use borrow.Author.Rules.{rules}
 use borrow.Author.Tests.{le-leb, lt-leb}
 use lib.IntN.{ℤ, pos, ◌+ℤ◌}
-use lib.ListN.{length, length-set}
+use lib.ListN.{length-set}
 use lib.Signed.{mag}
-use mathlib.Core.Bool.{Bool, true, false}
+use mathlib.Core.Bool.{false}
 use mathlib.Core.List.{List}
 use mathlib.Core.Path.{◌≡◌, sym, ◌∙◌}
 use mir.Facts.{to_z_pos}
 use mir.Syntax.{w32}
 use mir.Val.{to_z, of_z}
 use native.Mathlib.Omega.{arith}
-use Prim.Native.Nat.{ℕ, ◌+◌, ◌*◌, ◌≤◌, ◌<◌, ◌^◌}
+use Prim.Native.Nat.{◌≤◌, ◌<◌, ◌^◌}
 use Rattle.integer.proofs.Bounded.{held}
 use Rattle.integer.proofs.Tests.{was_true}
 use Rattle.nodes.specs.declared.Split.{Split}

@@ -1,15 +1,13 @@
 -- `leave` meets its contract: the frame's words are read, then the range's written.
-use borrow.Author.Rules.{rules}
 use borrow.Author.Tests.{eq-eqb, ne_eqb}
 use lib.IntN.{ℤ}
-use lib.ListN.{length, length-set}
-use mathlib.Core.Bool.{true, false}
+use lib.ListN.{length-set}
 use mathlib.Core.List.{List}
 use mathlib.Core.Path.{◌≡◌, sym, ◌∙◌}
 use mir.Syntax.{w32}
 use mir.Val.{to_z, of_z}
 use native.Mathlib.Omega.{arith}
-use Prim.Native.Nat.{ℕ, ◌+◌, ◌*◌, ◌<◌}
+use Prim.Native.Nat.{ℕ, ◌+◌, ◌<◌}
 use Rattle.integer.proofs.Bounded.{held}
 use Rattle.validation.specs.Frames.{Frame, frame_in, word_at, base}
 use Rattle.validation.proofs.visit.leave.Goals as goal

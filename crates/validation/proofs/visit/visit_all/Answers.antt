@@ -1,13 +1,12 @@
 -- `visit_all` meets its contract: each turn of a loop leaves what is to do as it was, and fewer nodes to enter.
-use borrow.Author.Rules.{rules}
 use lib.IntN.{ℤ}
-use lib.ListN.{length, drop}
+use lib.ListN.{drop}
 use mathlib.Core.List.{List}
 use mathlib.Core.Path.{◌≡◌, refl, sym, ap, subst, ◌∙◌}
 use native.Mathlib.Omega.{arith}
-use Prim.Native.Nat.{ℕ, suc, ◌+◌, ◌-◌, ◌≤◌, ◌<◌}
+use Prim.Native.Nat.{ℕ, suc, ◌+◌, ◌-◌, ◌<◌}
 use Rattle.refusal.specs.Paper.{gives}
-use Rattle.validation.specs.Frames.{said_entered, at_leaf, down}
+use Rattle.validation.specs.Frames.{said_entered, down}
 use Rattle.validation.proofs.Sound.{node_there}
 use Rattle.validation.proofs.Steps.{Kept, kept_none, kept_on, right_fits, at_leaf_lem, at_refusal, Down, goes_down, Visiting, Rising, to_do_all, none_pending, at_start_lem, left_upward, Rightward, left_rightward}
 use Rattle.validation.proofs.ToDo.{nodes, Sound, sound_list, pending_in, to_do, cost_above, cost, Above, Entry, entry_told}
