@@ -23,7 +23,7 @@ use Rattle.integer.proofs.Tests.{and_left, both}
 use Rattle.integer.specs.Fill.{filled}
 use Rattle.integer.specs.Order.{if}
 use Rattle.predict.specs.declared.neighbours.PredictionData.{PredictionData}
-use Rattle.refusal.specs.Paper.{Outcome, gives}
+use Rattle.refusal.specs.Paper.{gives}
 use Rattle.weighted.proofs.Allowed.{may}
 use Rattle.weighted.specs.Memory.{needed, previous, current, updated}
 use Rattle.weighted.specs.State.{is_width, at_start, nothing, opens, asks, puts, answered, onward}

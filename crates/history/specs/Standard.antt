@@ -1,7 +1,7 @@
 -- The weighted predictor as ISO/IEC 18181-1's modular annex defines it: the true error and the four sub-prediction errors of a pixel are
 -- functions of its position and of the pixels before it. Nothing here knows of memory, halves or parity. What it rests on, and the right
 -- edge, are in docs/DIFFERENCES.md.
-use Rattle.std.specs.Prelude.{Bool, true, false, List, [], ◌∷◌, ◌++◌, ℕ, zero, suc, ◌+◌, ◌-◌, ◌*◌, ◌/◌, ◌%◌, ◌^◌, ltb, ℤ, pos, get_or}
+use Rattle.std.specs.Prelude.{List, [], ◌∷◌, ◌++◌, ℕ, zero, suc, ◌+◌, ◌-◌, ◌*◌, ◌/◌, ◌%◌, ◌^◌, ltb, ℤ, pos, get_or}
 use Rattle.blend.specs.Blend.{predicted_of, errors_of}
 use Rattle.arith.specs.declared.Four.{Four}
 use Rattle.blend.specs.declared.PixelErrors.{PixelErrors}

@@ -1,6 +1,6 @@
 -- Module 4 of document 01, the lent memory: two halves of width + 2 positions, odd rows write the first. A position holds a signed
 -- error and four unsigned sums, position k in words 5k to 5k + 4.
-use Rattle.std.specs.Prelude.{Bool, true, false, List, ℕ, ◌+◌, ◌-◌, ◌*◌, ◌%◌, ◌^◌, ltb, eqb, ℤ, pos, length, get_or, set}
+use Rattle.std.specs.Prelude.{List, ℕ, ◌+◌, ◌-◌, ◌*◌, ◌%◌, ◌^◌, ltb, eqb, ℤ, pos, get_or, set}
 use Rattle.arith.specs.declared.Four.{Four}
 use Rattle.blend.specs.declared.PixelErrors.{PixelErrors}
 use Rattle.blend.specs.declared.TrueErrors.{TrueErrors}

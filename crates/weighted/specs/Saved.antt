@@ -1,5 +1,5 @@
 -- Module 4 of document 01, saving: the first half of the memory, its error row and then four sum rows.
-use Rattle.std.specs.Prelude.{Bool, true, false, ◌&&◌, not, List, ◌≡◌, refl, ℕ, ◌+◌, ◌*◌, ◌/◌, ◌%◌, ◌^◌, ltb, leb, eqb, length, get_or}
+use Rattle.std.specs.Prelude.{Bool, ◌&&◌, not, List, ◌≡◌, refl, ℕ, ◌+◌, ◌*◌, ◌/◌, ◌%◌, ◌^◌, ltb, leb, eqb, length, get_or}
 use Rattle.std.proofs.Common.{ap}
 use Rattle.blend.specs.Blend.{in_range}
 use Rattle.integer.specs.Fill.{filled}

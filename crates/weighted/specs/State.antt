@@ -12,7 +12,6 @@ use Rattle.refusal.specs.Paper.{Outcome, gives, refuses, paper, read_back, reads
 use Rattle.weighted.specs.Memory.{needed, errors_read, sums_read, updated}
 use Rattle.weighted.specs.declared.state.WeightedState.{WeightedState}
 use Rattle.weighted.specs.declared.state.Answer.{Answer}
-use Rattle.weighted.specs.declared.state.Kept.{Kept}
 use Rattle.weighted.specs.declared.state.Opened.{Opened}
 use Rattle.weighted.specs.declared.state.Opened.TheVariants as opened
 use Rattle.weighted.specs.declared.state.Asked.{Asked}

@@ -1,9 +1,6 @@
 -- `clear` meets its promise. The loop's invariant: i words are zero, the rest are as they were.
-use lib.ListN.{length}
-use mathlib.Core.Path.{◌≡◌, sym, ap, ◌∙◌}
-use native.Mathlib.Omega.{arith}
-use Prim.Native.Nat.{◌≤◌, ◌<◌, ◌-◌}
-use Rattle.integer.proofs.Fill.{filled_none, filled_more, filled_length}
+use mathlib.Core.Path.{◌≡◌}
+use Prim.Native.Nat.{◌≤◌, ◌-◌}
 use Rattle.integer.specs.Fill.{filled}
 use Rattle.weighted.proofs.memory.clear.Given as goal
 

@@ -1,5 +1,4 @@
 -- `error_at` meets its promise: the word read is word 0 of the position.
-use borrow.Author.Rules.{rules}
 use mathlib.Core.Path.{◌∙◌}
 use mir.Syntax.{w32}
 use native.Mathlib.Nat.{add-zero}

@@ -1,85 +1,13 @@
 -- `errors_around` meets its contract: all four positions lie in the lent words.
-use borrow.Author.Rules.{rules}
 use borrow.Author.Tests.{lt-ltb, le-ltb}
-use mathlib.Core.Logic.{⊎_elim}
 use mathlib.Core.Path.{◌≡◌, refl, ◌∙◌}
 use mir.Syntax.{w32}
-use native.Mathlib.Omega.{arith}
 use Prim.Native.Nat.{◌+◌, ◌*◌, ◌<◌}
 use Rattle.integer.proofs.Bounded.{held}
 use Rattle.weighted.specs.Memory.{positions, at_n, at_ne, errors_read}
-use Rattle.weighted.proofs.Halves.{in_current, n_there, ne_inside, ne_last, nw_inside}
+use Rattle.weighted.proofs.Halves.{n_there, ne_inside, ne_last, nw_inside}
 use Rattle.weighted.proofs.memory.errors_around.Goals as goal
 use Rattle.weighted.proofs.memory.errors_around.Goals.{else-x-width, then-x-width}
-
-pub overflow_add-n : goal.overflow_add-n
-overflow_add-n c =
-    -- where N is, and NE beside it
-    let above : (c.previous_half.result + c.args.x ≡ at_n c.args.memory.now c.args.width c.args.x c.args.y) × (c.previous_half.result + c.args.x + 1 < 2 * positions c.args.width) =
-    n_there c.args.memory.now c.args.width c.args.x c.args.y c.requires.1 c.previous_half.ensures in
-    omega (arith, above.1)
-
-pub overflow_add-ne : goal.overflow_add-ne
-overflow_add-ne c =
-    -- where N is, and NE beside it
-    let above : (c.previous_half.result + c.args.x ≡ at_n c.args.memory.now c.args.width c.args.x c.args.y) × (c.previous_half.result + c.args.x + 1 < 2 * positions c.args.width) =
-    n_there c.args.memory.now c.args.width c.args.x c.args.y c.requires.1 c.previous_half.ensures in
-    omega (arith, above.1)
-
-pub overflow_add-current_half : goal.overflow_add-current_half
-overflow_add-current_half c =
-    -- where W is
-    let to_the_left : c.current_half.result + c.args.x < 2 * positions c.args.width =
-    in_current c.args.width c.args.x c.args.y c.requires.1 c.current_half.ensures in
-    omega (arith, to_the_left)
-
-pub error_at-requires : goal.error_at-requires
-error_at-requires c =
-    -- where W is
-    let to_the_left : c.current_half.result + c.args.x < 2 * positions c.args.width =
-    in_current c.args.width c.args.x c.args.y c.requires.1 c.current_half.ensures in
-    omega (arith, to_the_left)
-
-pub error_at-requires-then-x-gt0 : goal.error_at-requires-then-x-gt0
-error_at-requires-then-x-gt0 c =
-    -- where N is, and NE beside it
-    let above : (c.previous_half.result + c.args.x ≡ at_n c.args.memory.now c.args.width c.args.x c.args.y) × (c.previous_half.result + c.args.x + 1 < 2 * positions c.args.width) =
-    n_there c.args.memory.now c.args.width c.args.x c.args.y c.requires.1 c.previous_half.ensures in
-    omega (arith, above.1)
-
-pub error_at-requires-then-x-gt0-2 : goal.error_at-requires-then-x-gt0-2
-error_at-requires-then-x-gt0-2 c =
-    -- where N is, and NE beside it
-    let above : (c.previous_half.result + c.args.x ≡ at_n c.args.memory.now c.args.width c.args.x c.args.y) × (c.previous_half.result + c.args.x + 1 < 2 * positions c.args.width) =
-    n_there c.args.memory.now c.args.width c.args.x c.args.y c.requires.1 c.previous_half.ensures in
-    omega (arith, above.1)
-
-pub error_at-requires-then-x-gt0-3 : goal.error_at-requires-then-x-gt0-3
-error_at-requires-then-x-gt0-3 c =
-    -- where N is, and NE beside it
-    let above : (c.previous_half.result + c.args.x ≡ at_n c.args.memory.now c.args.width c.args.x c.args.y) × (c.previous_half.result + c.args.x + 1 < 2 * positions c.args.width) =
-    n_there c.args.memory.now c.args.width c.args.x c.args.y c.requires.1 c.previous_half.ensures in
-    let beside : (c.if-x-width.ne ≡ at_ne c.args.memory.now c.args.width c.args.x c.args.y) × (c.if-x-width.ne < 2 * positions c.args.width) =
-    let n = above in
-    elim c.if-x-width.branch [ then-x-width w ↦ ne_inside c.args.memory.now c.args.width c.args.x c.args.y n w.if-x-width.true w.ne-is | else-x-width w ↦ ne_last c.args.memory.now c.args.width c.args.x c.args.y n w.if-x-width.false w.ne-is ] in
-    omega (arith, beside.1)
-
-pub error_at-error-requires : goal.error_at-error-requires
-error_at-error-requires c =
-    -- where N is, and NE beside it
-    let above : (c.previous_half.result + c.args.x ≡ at_n c.args.memory.now c.args.width c.args.x c.args.y) × (c.previous_half.result + c.args.x + 1 < 2 * positions c.args.width) =
-    n_there c.args.memory.now c.args.width c.args.x c.args.y c.requires.1 c.previous_half.ensures in
-    omega (arith, above.1)
-
-pub error_at-requires-else-x-gt0 : goal.error_at-requires-else-x-gt0
-error_at-requires-else-x-gt0 c =
-    -- where N is, and NE beside it
-    let above : (c.previous_half.result + c.args.x ≡ at_n c.args.memory.now c.args.width c.args.x c.args.y) × (c.previous_half.result + c.args.x + 1 < 2 * positions c.args.width) =
-    n_there c.args.memory.now c.args.width c.args.x c.args.y c.requires.1 c.previous_half.ensures in
-    let beside : (c.if-x-width.ne ≡ at_ne c.args.memory.now c.args.width c.args.x c.args.y) × (c.if-x-width.ne < 2 * positions c.args.width) =
-    let n = above in
-    elim c.if-x-width.branch [ then-x-width w ↦ ne_inside c.args.memory.now c.args.width c.args.x c.args.y n w.if-x-width.true w.ne-is | else-x-width w ↦ ne_last c.args.memory.now c.args.width c.args.x c.args.y n w.if-x-width.false w.ne-is ] in
-    omega (arith, beside.1)
 
 pub returns-then-x-gt0 : goal.returns-then-x-gt0
 unfolding errors_read

@@ -1,13 +1,8 @@
 -- `restore_words` meets its promise. The loop's invariant: k words are written, the rest are as they were.
-use lib.ListN.{length}
-use mathlib.Core.Path.{◌≡◌, sym, ap, ◌∙◌}
-use native.Mathlib.Omega.{arith}
-use Prim.Native.Nat.{◌+◌, ◌*◌, ◌-◌, ◌/◌, ◌%◌, ◌≤◌, ◌<◌}
-use Rattle.integer.proofs.Fill.{filled_none, filled_more, filled_length}
+use mathlib.Core.Path.{◌≡◌}
+use Prim.Native.Nat.{◌-◌, ◌≤◌}
 use Rattle.integer.specs.Fill.{filled}
-use Rattle.weighted.specs.Memory.{positions}
 use Rattle.weighted.specs.Saved.{saved_words, restored_word}
-use Rattle.weighted.proofs.Copied.{restored_within}
 use Rattle.weighted.proofs.saving.restore_words.Given as goal
 
 abbrev pub invariant-loop-k : goal.invariant-loop-k

@@ -4,56 +4,16 @@ use mathlib.Core.List.{List}
 use mathlib.Core.Path.{◌≡◌, sym, ap, ap₂, ◌∙◌}
 use native.Mathlib.Nat.{add-mul}
 use native.Mathlib.Omega.{arith}
-use Prim.Native.Nat.{ℕ, ◌+◌, ◌*◌, ◌-◌, ◌≤◌, ◌<◌}
-use Rattle.integer.proofs.Fill.{filled_none, filled_more, filled_length}
+use Prim.Native.Nat.{ℕ, ◌+◌, ◌*◌, ◌<◌}
+use Rattle.integer.proofs.Fill.{filled_none, filled_more}
 use Rattle.integer.specs.Fill.{filled}
 use Rattle.weighted.specs.Memory.{positions}
-use Rattle.weighted.specs.Saved.{saved_words, saved_word}
-use Rattle.weighted.proofs.Copied.{row_below, saved_cell}
+use Rattle.weighted.specs.Saved.{saved_word}
+use Rattle.weighted.proofs.Copied.{saved_cell}
 use Rattle.weighted.proofs.saving.save_words.Goals as goal
 
 pub loop-k-init : goal.loop-k-init
 loop-k-init c = (omega arith, omega arith, omega arith, sym (filled_none _ _))
-
-pub overflow_add-saved : goal.overflow_add-saved
-overflow_add-saved c =
-    let one_of_five : c.loop-k.row < 5 =
-    row_below c.args.memory.now c.args.width c.loop-k.row c.loop-k.x (rw c.loop-k.invariant.2 at c.loop-k-test.true) in
-    omega (arith, one_of_five)
-
-pub offset_bounds-memory-x : goal.offset_bounds-memory-x
-offset_bounds-memory-x c =
-    let one_of_five : c.loop-k.row < 5 =
-    row_below c.args.memory.now c.args.width c.loop-k.row c.loop-k.x (rw c.loop-k.invariant.2 at c.loop-k-test.true) in
-    omega (arith, one_of_five)
-
-pub bounds-memory-x : goal.bounds-memory-x
-bounds-memory-x c =
-    let one_of_five : c.loop-k.row < 5 =
-    row_below c.args.memory.now c.args.width c.loop-k.row c.loop-k.x (rw c.loop-k.invariant.2 at c.loop-k-test.true) in
-    omega (arith, one_of_five)
-
-pub offset_bounds-saved-k : goal.offset_bounds-saved-k
-offset_bounds-saved-k c =
-    -- the list keeps its length, and the row is one of five
-    let long : length c.loop-k.saved ≡ length c.args.saved.now =
-    let within : c.loop-k.k ≤ length c.args.saved.now = omega arith in
-    ap length c.loop-k.invariant.3 ∙ filled_length _ _ _ within in
-    omega (arith, long)
-
-pub bounds-saved-k : goal.bounds-saved-k
-bounds-saved-k c =
-    -- the list keeps its length, and the row is one of five
-    let long : length c.loop-k.saved ≡ length c.args.saved.now =
-    let within : c.loop-k.k ≤ length c.args.saved.now = omega arith in
-    ap length c.loop-k.invariant.3 ∙ filled_length _ _ _ within in
-    omega (arith, long)
-
-pub overflow_add-row : goal.overflow_add-row
-overflow_add-row c =
-    let one_of_five : c.loop-k.row < 5 =
-    row_below c.args.memory.now c.args.width c.loop-k.row c.loop-k.x (rw c.loop-k.invariant.2 at c.loop-k-test.true) in
-    omega (arith, one_of_five)
 
 pub loop-k-preserved-then-x-positions : goal.loop-k-preserved-then-x-positions
 loop-k-preserved-then-x-positions c =
@@ -72,16 +32,3 @@ loop-k-preserved c =
     let word = saved_cell c.args.memory.now c.args.width c.loop-k.row c.loop-k.x c.loop-k.invariant.1 ∙ ap (saved_word c.args.memory.now c.args.width) (sym c.loop-k.invariant.2) in
     ap₂ (λ (d : List ℕ) (v : ℕ). set d c.loop-k.k v) c.loop-k.invariant.3 word ∙ filled_more _ _ _ below in
     (omega arith, omega (arith, c.if-x-positions.false), omega arith, more)
-
-pub shape_of-saved : goal.shape_of-saved
-shape_of-saved c =
-    -- the list keeps its length, and the row is one of five
-    let long : length c.loop-k.saved ≡ length c.args.saved.now =
-    let within : c.loop-k.k ≤ length c.args.saved.now = omega arith in
-    ap length c.loop-k.invariant.3 ∙ filled_length _ _ _ within in
-    long
-
-pub returns : goal.returns
-returns c =
-    let all : c.loop-k.k ≡ saved_words c.args.width = omega arith in
-    rw all at c.loop-k.invariant.3

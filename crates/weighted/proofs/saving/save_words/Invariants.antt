@@ -1,15 +1,9 @@
 -- `save_words` meets its promise. The loop's invariant: k words are saved, and word k is word `row` of position x.
-use lib.ListN.{length, get_or, set}
-use mathlib.Core.List.{List}
-use mathlib.Core.Path.{◌≡◌, sym, ap, ap₂, ◌∙◌}
-use native.Mathlib.Nat.{add-mul}
-use native.Mathlib.Omega.{arith}
-use Prim.Native.Nat.{ℕ, ◌+◌, ◌*◌, ◌-◌, ◌≤◌, ◌<◌}
-use Rattle.integer.proofs.Fill.{filled_none, filled_more, filled_length}
+use mathlib.Core.Path.{◌≡◌}
+use Prim.Native.Nat.{◌+◌, ◌*◌, ◌-◌, ◌≤◌, ◌<◌}
 use Rattle.integer.specs.Fill.{filled}
 use Rattle.weighted.specs.Memory.{positions}
 use Rattle.weighted.specs.Saved.{saved_words, saved_word}
-use Rattle.weighted.proofs.Copied.{row_below, saved_cell}
 use Rattle.weighted.proofs.saving.save_words.Given as goal
 
 abbrev pub invariant-loop-k : goal.invariant-loop-k

@@ -1,5 +1,4 @@
 -- `ask` meets its promise: a refusal is that of the tests, and past them the header is in range, so that there is a prediction.
-use borrow.Author.Rules.{rules}
 use lib.ListN.{length}
 use mathlib.Core.Bool.{not}
 use mathlib.Core.Path.{◌≡◌, sym, ap, ap₂, ◌∙◌}

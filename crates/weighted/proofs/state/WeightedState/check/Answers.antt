@@ -1,13 +1,9 @@
 -- `check` meets its promise: each test decides one part.
-use borrow.Author.Rules.{rules}
 use borrow.Author.Tests.{le-leb, lt-leb}
 use mathlib.Core.Bool.{true}
 use mathlib.Core.Path.{◌≡◌, sym, ◌∙◌}
-use native.Mathlib.Omega.{arith}
 use Rattle.blend.specs.Blend.{in_range}
-use Rattle.integer.proofs.Tests.{was_false, was_true}
 use Rattle.weighted.specs.State.{is_place, allowed}
-use Rattle.weighted.proofs.Allowed.{place_is}
 use Rattle.weighted.proofs.state.WeightedState.check.Goals as goal
 
 pub returns-then-not-in_range : goal.returns-then-not-in_range
@@ -26,16 +22,6 @@ returns-then-not-turn c =
     let in_range_lem : in_range c.args.self.header ≡ true = sym c.in_range.ensures ∙ c.if-not-in_range.false in
     let is_place_lem : is_place c.args.self ≡ true = sym c.is_place.ensures ∙ c.if-not-is_place.false in
     simp (in_range_lem, is_place_lem, c.if-not-turn.true)
-
-pub overflow_add-needed : goal.overflow_add-needed
-overflow_add-needed c =
-    let is_place_lem : is_place c.args.self ≡ true = sym c.is_place.ensures ∙ c.if-not-is_place.false in
-    let p = place_is c.args.self is_place_lem in omega arith
-
-pub overflow_mul-needed : goal.overflow_mul-needed
-overflow_mul-needed c =
-    let is_place_lem : is_place c.args.self ≡ true = sym c.is_place.ensures ∙ c.if-not-is_place.false in
-    let p = place_is c.args.self is_place_lem in omega arith
 
 pub returns-then-lent-needed : goal.returns-then-lent-needed
 unfolding allowed

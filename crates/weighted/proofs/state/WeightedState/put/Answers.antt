@@ -1,10 +1,8 @@
 -- `put` meets its promise: a refusal is that of the tests, and past them what was found is possible, so that there are errors.
-use borrow.Author.Rules.{rules}
 use lib.ListN.{length}
 use mathlib.Core.Bool.{Bool, true, ◌&&◌}
 use mathlib.Core.Path.{◌≡◌, sym, ap, ◌∙◌}
 use mir.Facts.{to_z-of_z}
-use native.Mathlib.Omega.{arith}
 use Rattle.blend.specs.Blend.{said_left, leaves, possible}
 use Rattle.integer.proofs.Tests.{and_right}
 use Rattle.refusal.specs.Paper.{gives}
