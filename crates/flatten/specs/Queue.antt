@@ -4,7 +4,6 @@ use Rattle.std.specs.Prelude.{List, [], ◌∷◌, ◌++◌, ℕ, zero, suc, ◌
 use Rattle.nodes.specs.Nodes.{node_at}
 use Rattle.nodes.specs.declared.Node.{Node}
 use Rattle.nodes.specs.declared.Node.TheVariants as node
-use Rattle.nodes.specs.declared.Split.{Split}
 use Rattle.refusal.specs.Paper.{Outcome, gives, refuses}
 
 -- what is queued for a child: its own two children, or the leaf itself twice

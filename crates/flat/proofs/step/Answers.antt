@@ -1,14 +1,11 @@
 -- `step` meets its contract: 4, then 10, then the grandchild's place, which lies inside the list.
-use borrow.Author.Rules.{rules}
 use borrow.Author.Tests.{le-leb, lt-leb}
 use lib.ListN.{length}
 use mathlib.Core.Bool.{true, false}
 use mathlib.Core.Path.{◌≡◌, sym, ◌∙◌}
 use native.Mathlib.Omega.{arith}
 use Prim.Native.Nat.{◌≤◌, ◌<◌}
-use Rattle.integer.proofs.Tests.{was_false, was_true}
 use Rattle.flat.specs.FlatWalk.{step_of, in_order, cells_needed}
-use Rattle.flat.proofs.Turn.{grandchild_small}
 use Rattle.flat.proofs.step.Goals as goal
 
 pub returns-then-not-sound : goal.returns-then-not-sound
@@ -24,17 +21,6 @@ returns-then-cells-needed c =
     let is_needed : c.cells_needed-needed.result ≡ cells_needed c.args.split = c.cells_needed-needed.ensures in
     let too_few : let s = c.args in length s.cells.now < cells_needed s.split = omega (arith, c.if-cells-needed.true, is_needed) in
     simp (in_order_so, lt-leb _ _ too_few, is_needed)
-
-pub grandchild_of-grandchild-requires : goal.grandchild_of-grandchild-requires
-grandchild_of-grandchild-requires c =
-    let is_needed : c.cells_needed-needed.result ≡ cells_needed c.args.split = c.cells_needed-needed.ensures in
-    let enough : let s = c.args in cells_needed s.split ≤ length s.cells.now = omega (arith, c.if-cells-needed.false, is_needed) in
-    enough
-
-pub overflow_add-result : goal.overflow_add-result
-overflow_add-result c =
-    let s = c.args in
-    record { fits = omega (arith, c.grandchild_of-grandchild.ensures, grandchild_small s.cells.now s.split) }
 
 pub returns : goal.returns
 unfolding step_of

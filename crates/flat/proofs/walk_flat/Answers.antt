@@ -1,5 +1,4 @@
 -- `walk_flat` meets its contract. The loop's invariant: the walk from the place on is the whole walk.
-use borrow.Author.Rules.{rules}
 use mathlib.Core.Path.{◌≡◌, sym, ap, ◌∙◌}
 use mathlib.Core.List.{List}
 use lib.IntN.{ℤ, pos}
@@ -28,11 +27,6 @@ use Rattle.flat.specs.declared.records.Record.TheVariants as record'
 use Rattle.flat.proofs.Read.{leaf_here, split_here, properties_small}
 use Rattle.flat.proofs.Turn.{leads_on, turn}
 use Rattle.flat.proofs.walk_flat.Goals as goal
-
-pub loop-leaf_read-init : goal.loop-leaf_read-init
-loop-leaf_read-init c =
-    let full : c.args.count - 0 ≡ c.args.count = omega arith in
-    (c.requires.0, omega arith, rw full)
 
 pub step-next-requires : goal.step-next-requires
 step-next-requires c =

@@ -1,5 +1,4 @@
 -- `build_flat_tree` meets its promise: each way out is one of `Answers`.
-use borrow.Author.Rules.{rules}
 use lib.IntN.{ℤ, pos}
 use lib.ListN.{length, drop}
 use lib.Seq.{length-take-le}

@@ -1,5 +1,4 @@
 -- `write_and_clear` meets its contract.
-use borrow.Author.Rules.{rules}
 use lib.IntN.{ℤ, pos}
 use mathlib.Core.Path.{ap, ◌∙◌}
 use Rattle.integer.specs.Fill.{tabulate}

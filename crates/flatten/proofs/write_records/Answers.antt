@@ -4,7 +4,7 @@ use lib.ListN.{length}
 use mathlib.Core.List.{List}
 use mathlib.Core.Path.{◌≡◌, refl, sym, ◌∙◌}
 use native.Mathlib.Omega.{arith}
-use Prim.Native.Nat.{◌-◌, ◌<◌}
+use Prim.Native.Nat.{◌<◌}
 use Rattle.validation.proofs.ToDo.{nodes, Sound, sound_list}
 use Rattle.flatten.specs.Queue.{record_count}
 use Rattle.flatten.proofs.Writing.{Writing, root_queued, all_written, fewer, place_here, record_room, few_queued, queue_room, one_more, records_few, output_kept}

@@ -1,5 +1,4 @@
 -- `record_here` meets its contract: the first word says whether it is a leaf or a split, and what was read of it is wrapped.
-use borrow.Author.Rules.{rules}
 use lib.IntN.{ℤ}
 use mathlib.Core.List.{List}
 use mathlib.Core.Path.{◌≡◌, refl, sym, ap, ◌∙◌}

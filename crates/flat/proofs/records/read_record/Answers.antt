@@ -1,5 +1,4 @@
 -- `read_record` meets its promise: fewer than six words are no record.
-use borrow.Author.Rules.{rules}
 use borrow.Author.Tests.{lt-ltb}
 use Rattle.flat.specs.Records.{record_of}
 use Rattle.flat.proofs.records.read_record.Goals as goal

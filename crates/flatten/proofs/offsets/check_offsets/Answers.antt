@@ -5,8 +5,7 @@ use mathlib.Core.List.{List}
 use mathlib.Core.Path.{◌≡◌, sym, ap, ◌∙◌}
 use native.Mathlib.Numerals.{add-one}
 use native.Mathlib.Omega.{arith}
-use Prim.Native.Nat.{ℕ, suc, ◌-◌, ◌≤◌}
-use Rattle.refusal.specs.Paper.{gives}
+use Prim.Native.Nat.{ℕ, suc}
 use Rattle.validation.specs.Verdict.{said_verdict}
 use Rattle.flatten.specs.Offsets.{first_wide}
 use Rattle.flatten.proofs.Wide.{next_wide, wide_stays}

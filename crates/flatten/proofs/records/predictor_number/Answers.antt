@@ -1,5 +1,4 @@
 -- `predictor_number` meets its contract.
-use borrow.Author.Rules.{rules}
 use Rattle.flatten.proofs.records.predictor_number.Goals as goal
 
 pub returns-in-Zero : goal.returns-in-Zero

@@ -1,5 +1,4 @@
 -- `queue_child` meets its contract.
-use borrow.Author.Rules.{rules}
 use Rattle.flatten.proofs.Rounds.{puts_on}
 use Rattle.flatten.proofs.records.queue_child.Goals as goal
 

@@ -1,5 +1,4 @@
 -- `read_child` meets its contract: the node that is read decides.
-use borrow.Author.Rules.{rules}
 use lib.IntN.{ℤ}
 use mathlib.Core.List.{List}
 use mathlib.Core.Path.{◌≡◌, sym, ap, ◌∙◌}

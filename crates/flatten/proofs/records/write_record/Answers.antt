@@ -1,5 +1,4 @@
 -- `write_record` meets its contract: the node that is read decides.
-use borrow.Author.Rules.{rules}
 use lib.IntN.{ℤ}
 use lib.ListN.{length}
 use mathlib.Core.List.{List}

@@ -1,5 +1,4 @@
 -- `write_three` meets its contract: the children as they are read, in the record and in the queue.
-use borrow.Author.Rules.{rules}
 use lib.IntN.{ℤ}
 use lib.ListN.{length}
 use mathlib.Core.List.{List}

@@ -1,5 +1,4 @@
 -- `take` meets its contract.
-use borrow.Author.Rules.{rules}
 use lib.IntN.{pos}
 use lib.ListN.{get_or}
 use mathlib.Core.Path.{◌≡◌}
