@@ -136,7 +136,7 @@ fn leave(depth: usize, work: &mut [i32]) -> Back
 pub fn visit_all(words: &[i32], work: &mut [i32]) -> Verdict
     requires { SoundList words.now × (10762 ≤ length work.old) × (ranges work.old ≡ all_ranges) }
     ensures result_value { said_verdict result ≡ visit words.now levels 0 all_ranges }
-    ensures work_unchanged { drop 10762 work.new ≡ drop 10762 work.old }
+    ensures rest_unchanged { drop 10762 work.new ≡ drop 10762 work.old }
 {
     let mut place = 0;
     let mut depth = 0;

@@ -14,5 +14,5 @@ visit_all-verdict-requires c =
 
 pub returns : goal.returns
 returns c =
-    let beyond = c.visit_all-verdict.ensures.work_unchanged ∙ ap (drop 10762) c.open_ranges.ensures ∙ beyond_filled widest 512 10250 c.args.work.now in
+    let beyond = c.visit_all-verdict.ensures.rest_unchanged ∙ ap (drop 10762) c.open_ranges.ensures ∙ beyond_filled widest 512 10250 c.args.work.now in
     record { result_value = c.visit_all-verdict.ensures.result_value; work_after = c.clear.ensures ∙ filled_alike (λ i. pos 0) 10762 c.visit_all-verdict.new.work c.args.work.now beyond }

@@ -194,7 +194,7 @@ returns-in-Refused c =
     c.enter-entered.ensures.work_after in
     let v = c.visit.invariant in
     let r = at_refusal list sound place depth work so_far.here so_far.above (rw (ap said_entered c.in-Refused.is) at told) in
-    record { result_value = sym r.1 ∙ so_far.same_to_do ∙ v.same_to_do ∙ to_do_all list c.args.work.now c.requires.2; work_unchanged = ap (drop 10762) r.0 ∙ (kept_on v.kept so_far.kept).beyond }
+    record { result_value = sym r.1 ∙ so_far.same_to_do ∙ v.same_to_do ∙ to_do_all list c.args.work.now c.requires.2; rest_unchanged = ap (drop 10762) r.0 ∙ (kept_on v.kept so_far.kept).beyond }
 
 pub returns-then-depth-eq0 : goal.returns-then-depth-eq0
 returns-then-depth-eq0 c =
@@ -220,4 +220,4 @@ returns-then-depth-eq0 c =
     ∙ sym leaf.1
     ∙ so_far.same_to_do in
     let v = c.visit.invariant in
-    record { result_value = sym (none_pending list c.loop-depth.depth c.loop-depth.work c.if-depth-eq0.true) ∙ pending_since ∙ v.same_to_do ∙ to_do_all list c.args.work.now c.requires.2; work_unchanged = (kept_on v.kept kept_since).beyond }
+    record { result_value = sym (none_pending list c.loop-depth.depth c.loop-depth.work c.if-depth-eq0.true) ∙ pending_since ∙ v.same_to_do ∙ to_do_all list c.args.work.now c.requires.2; rest_unchanged = (kept_on v.kept kept_since).beyond }
