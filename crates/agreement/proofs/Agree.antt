@@ -1,20 +1,19 @@
 -- Demand 3, second half, of the definitions: over a sound list whose offsets fit, with cells that cover it, the direct walk and the flat walk
 -- over its records end at one leaf.
 use borrow.Author.Tests.{le-ltb, le-leb, ne_eqb, eq-eqb}
-use lib.Dec.{ltb, leb, eqb}
 use lib.IntN.{ℤ}
 use lib.ListN.{length}
 use mathlib.Core.List.{List}
 use mathlib.Core.Logic.{inl}
-use mathlib.Core.Path.{◌≡◌, refl, sym, ap, ◌∙◌}
+use mathlib.Core.Path.{◌≡◌, refl, ap, ◌∙◌}
 use native.Mathlib.Omega.{arith}
-use Prim.Native.Nat.{ℕ, ◌+◌, ◌*◌, ◌/◌, ◌%◌, ◌≤◌, ◌<◌}
+use Prim.Native.Nat.{ℕ, ◌+◌, ◌/◌, ◌%◌, ◌≤◌, ◌<◌}
 use Rattle.predict.specs.declared.neighbours.PredictionData.{PredictionData}
 use Rattle.refusal.specs.Paper.{gives}
 use Rattle.validation.specs.Reach.{root, start}
 use Rattle.validation.specs.Shape.{shape_of}
 use Rattle.walk.specs.Walk.{answer_of, walk_from, walk_by}
-use Rattle.flat.specs.FlatWalk.{flat_from, flat_by, flat_of}
+use Rattle.flat.specs.FlatWalk.{flat_by, flat_of}
 use Rattle.flat.specs.Records.{counted}
 use Rattle.flatten.proofs.Counts.{place_of, output_room}
 use Rattle.flatten.proofs.Flat.{words_long}

@@ -1,27 +1,25 @@
 -- Demand 3, second half, said of the promises of `validate_tree`, `build_flat_tree` and the two walks.
 use borrow.Author.Tests.{le-ltb, le-leb, eq-eqb, ne_eqb}
-use lib.Dec.{ltb, leb, eqb}
+use lib.Dec.{ltb, eqb}
 use lib.IntN.{ℤ, pos, negsuc}
 use lib.ListN.{length, take, drop}
 use lib.Seq.{take_at}
-use lib.Signed.{mag, lt_z}
-use mathlib.Core.Bool.{Bool, true, false}
-use mathlib.Core.List.{List, ◌++◌}
+use lib.Signed.{mag}
+use mathlib.Core.Bool.{false}
+use mathlib.Core.List.{List}
 use mathlib.Core.Path.{◌≡◌, refl, sym, ap, ◌∙◌}
 use native.Mathlib.Omega.{arith}
 use Prim.Native.Nat.{ℕ, zero, suc, ◌+◌, ◌*◌, ◌/◌, ◌%◌, ◌≤◌, ◌<◌}
 use Rattle.integer.specs.Order.{if}
 use Rattle.nodes.specs.Nodes.{node_at, then, counted}
-use Rattle.nodes.specs.declared.Leaf.{Leaf}
 use Rattle.nodes.specs.declared.Node.{Node}
 use Rattle.nodes.specs.declared.Node.TheVariants as node
 use Rattle.predict.specs.declared.neighbours.PredictionData.{PredictionData}
-use Rattle.refusal.specs.Paper.{Outcome, gives, refuses}
+use Rattle.refusal.specs.Paper.{Outcome, gives}
 use Rattle.validation.proofs.Sound.{both_given, node_there}
 use Rattle.validation.proofs.ToDo.{nodes, Sound, sound_list}
 use Rattle.validation.specs.Shape.{shape, shape_of}
-use Rattle.validation.specs.Validation.{validation, Validates}
-use Rattle.validation.specs.Verdict.{said_verdict}
+use Rattle.validation.specs.Validation.{Validates}
 use Rattle.validation.specs.declared.Verdict.TheVariants.{Accepted}
 use Rattle.walk.specs.Walk.{answer_of, walk_of, walk_by, walk_determined}
 use Rattle.walk.specs.Walk as walking
@@ -29,7 +27,6 @@ use Rattle.walk.specs.declared.Walked.{Walked}
 use Rattle.walk.specs.declared.Walked.TheVariants as walked
 use Rattle.flat.specs.FlatWalk.{flat_of}
 use Rattle.flatten.specs.Flatten.{ring_needed, output_needed, flattening, flattening_of, output_after, Flattens, flattens_determined}
-use Rattle.flatten.specs.Flatten as flattened
 use Rattle.flatten.specs.Offsets.{judged, offset_of, first_wide}
 use Rattle.flatten.specs.Queue.{record_count}
 use Rattle.flatten.specs.Records.{record_words}
@@ -37,7 +34,7 @@ use Rattle.flatten.specs.declared.Flattened.{Flattened}
 use Rattle.flatten.specs.declared.Flattened.TheVariants as flattening'
 use Rattle.flatten.proofs.Flat.{words_long}
 use Rattle.agreement.specs.Covers.{Covers, EndsAt, OffsetsFit}
-use Rattle.agreement.proofs.Agree.{Agree, agree}
+use Rattle.agreement.proofs.Agree.{agree}
 
 -- ---- offsets that fit are not refused
 

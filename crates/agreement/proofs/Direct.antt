@@ -1,26 +1,24 @@
 -- The direct walk over a sound list: it is not refused, and ends at the leaf that the cells lead to, after as many hops as that lies deep.
 use borrow.Author.Tests.{lt-ltb, eq-eqb, ne_eqb, le-ltb}
-use lib.Dec.{ltb, eqb}
 use lib.IntN.{ℤ}
 use lib.ListN.{length}
 use lib.Signed.{lt_z}
 use mathlib.Core.Bool.{Bool, true, false}
 use mathlib.Core.List.{List}
-use mathlib.Core.Path.{◌≡◌, refl, sym, ap, ◌∙◌}
+use mathlib.Core.Path.{◌≡◌}
 use native.Mathlib.Omega.{arith}
-use Prim.Native.Nat.{ℕ, zero, suc, ◌+◌, ◌*◌, ◌≤◌, ◌<◌}
+use Prim.Native.Nat.{ℕ, zero, suc, ◌+◌, ◌≤◌, ◌<◌}
 use Rattle.integer.specs.Order.{if}
-use Rattle.nodes.specs.Nodes.{node_at, word, counted}
-use Rattle.nodes.specs.declared.Leaf.{Leaf}
+use Rattle.nodes.specs.Nodes.{node_at, word}
 use Rattle.nodes.specs.declared.Node.{Node}
 use Rattle.nodes.specs.declared.Node.TheVariants as node
 use Rattle.nodes.specs.declared.Split.{Split}
 use Rattle.predict.specs.declared.neighbours.PredictionData.{PredictionData}
-use Rattle.refusal.specs.Paper.{Outcome, gives, refuses}
-use Rattle.validation.specs.Reach.{SplitAt, LeafAt, LiesAt, root, left, right, Walks, start, step}
+use Rattle.refusal.specs.Paper.{gives}
+use Rattle.validation.specs.Reach.{SplitAt, LiesAt, root, left, right, Walks, start, step}
 use Rattle.validation.specs.Shape.{shape_of}
 use Rattle.validation.proofs.Sound.{node_there, children, inside}
-use Rattle.walk.specs.Walk.{answer_of, in_order, chosen, step_of, enter, onward, walk_from, walk_by}
+use Rattle.walk.specs.Walk.{answer_of, chosen, step_of, enter, walk_from, walk_by}
 use Rattle.agreement.specs.Covers.{Covers, EndsAt}
 
 module _ (words : List ℤ) (n : ℕ) (sound : shape_of words n ≡ gives tt) (some : 0 < n) (cells : List ℤ) (covers : Covers words n cells) (d : PredictionData) (wp : ℤ) where

@@ -1,13 +1,13 @@
 -- The flat walk over what flattening writes: where it stands after h records, the direct walk comes by after 2h steps, or one less at a
 -- leaf. So it is not refused, and ends at the same leaf.
-use borrow.Author.Tests.{lt-ltb, le-ltb, le-leb, ne_eqb}
-use lib.Dec.{ltb, leb, eqb}
-use lib.IntN.{ℤ, pos}
+use borrow.Author.Tests.{lt-ltb, le-leb}
+use lib.Dec.{ltb}
+use lib.IntN.{ℤ}
 use lib.ListN.{length, get_or, take, drop, take-append-drop}
-use lib.Signed.{lt_z, mag}
+use lib.Signed.{lt_z}
 use mathlib.Core.Bool.{Bool, true, false}
-use mathlib.Core.List.{List, [], ◌∷◌, ◌++◌, append-nil}
-use mathlib.Core.Logic.{◌⊎◌, inl, inr}
+use mathlib.Core.List.{List, [], ◌++◌, append-nil}
+use mathlib.Core.Logic.{inl, inr}
 use mathlib.Core.Path.{◌≡◌, refl, sym, ap, subst, ◌∙◌}
 use native.Mathlib.Omega.{arith}
 use Prim.Native.Nat.{ℕ, zero, suc, ◌+◌, ◌*◌, ◌/◌, ◌≤◌, ◌<◌}
@@ -33,7 +33,7 @@ use Rattle.flat.specs.declared.records.Record.TheVariants as flat
 use Rattle.flatten.proofs.Counts.{place_of, place_inside, so_far, output_room}
 use Rattle.flatten.proofs.Flat.{later, grandchildren_inside, record_at_lem, grandchild_at}
 use Rattle.flatten.specs.Queue.{queued_for, grandchildren, first_of, node_of_record, record_count}
-use Rattle.flatten.specs.Records.{record_for, record_words, property_of, value_of, leaf_words}
+use Rattle.flatten.specs.Records.{record_for, record_words, property_of, value_of}
 use Rattle.agreement.specs.Covers.{Covers, EndsAt, OffsetsFit}
 use Rattle.agreement.proofs.Direct.{steps_on, lies_on, inside_on}
 use Rattle.agreement.proofs.Half.{Half, halved}

@@ -1,5 +1,5 @@
 -- With a guess from the weighted state, guess plus offset does not wrap at 64 bits: a header in range, 32-bit neighbours, errors and offset.
-use lib.IntN.{ℤ, pos, ◌+ℤ◌}
+use lib.IntN.{pos, ◌+ℤ◌}
 use mathlib.Core.Path.{◌≡◌}
 use Prim.Native.Nat.{ℕ, ◌^◌}
 use Rattle.arith.specs.declared.Four.{Four}

@@ -1,29 +1,26 @@
 -- What flattening writes is read back: the six words of a record, and record k of the list.
-use borrow.Author.Tests.{lt-ltb, le-ltb, le-leb, eq-eqb, ne_eqb}
-use lib.Dec.{ltb, leb, eqb}
+use borrow.Author.Tests.{lt-ltb, le-ltb, le-leb, ne_eqb}
+use lib.Dec.{ltb, eqb}
 use lib.IntN.{ℤ, pos, negsuc, ◌-ℤ◌}
 use lib.ListN.{length}
 use lib.Signed.{mag}
-use mathlib.Core.Bool.{Bool, true, false}
-use mathlib.Core.List.{List, [], ◌∷◌, ◌++◌}
-use mathlib.Core.Path.{◌≡◌, refl, sym, ap, ◌∙◌}
+use mathlib.Core.Bool.{false}
+use mathlib.Core.List.{List, ◌∷◌, ◌++◌}
+use mathlib.Core.Path.{◌≡◌, refl, ◌∙◌}
 use native.Mathlib.Omega.{arith}
 use Prim.Native.Nat.{ℕ, ◌+◌, ◌-◌, ◌*◌, ◌/◌, ◌%◌, ◌≤◌, ◌<◌, ◌^◌}
 use Rattle.integer.proofs.Parts.{of_minus, same}
 use Rattle.integer.proofs.Wrap.{bits_parts, bits_of_wrap}
 use Rattle.integer.specs.Word.{bits_of, wrap}
-use Rattle.integer.specs.Order.{if}
 use Rattle.nodes.specs.declared.Leaf.{Leaf}
 use Rattle.predict.specs.Predictors.{numbered}
 use Rattle.predict.specs.declared.predictors.Numbered.TheVariants.{Is}
 use Rattle.predict.specs.declared.predictors.Predictor.{Predictor}
 use Rattle.predict.specs.declared.predictors.Predictor.TheVariants.{Zero, West, North, AverageWestAndNorth, Select, Gradient, Weighted, NorthEast, NorthWest, WestWest, AverageWestAndNorthWest, AverageNorthAndNorthWest, AverageNorthAndNorthEast, AverageAll}
-use Rattle.refusal.specs.Paper.{Outcome, gives, refuses}
-use Rattle.flat.specs.Records.{record_of, signed_half, low_half, high_half}
-use Rattle.flat.specs.declared.records.FlatLeaf.{FlatLeaf}
-use Rattle.flat.specs.declared.records.FlatSplit.{FlatSplit}
+use Rattle.refusal.specs.Paper.{gives}
+use Rattle.flat.specs.Records.{record_of, signed_half}
 use Rattle.flat.specs.declared.records.Record.TheVariants as flat
-use Rattle.flatten.specs.Records.{predictor_number, numbered_again, leaf_words}
+use Rattle.flatten.specs.Records.{predictor_number, leaf_words}
 
 bits_small : (k : ℕ) → k < 2 ^ 32 → bits_of (pos k) ≡ k
 bits_small k h = omega (arith, bits_parts (pos k))

@@ -1,5 +1,5 @@
 -- What demand 3 asks of the cells and of the leaves' offsets, and what it says of where a walk ends.
-use Rattle.std.specs.Prelude.{List, ◌≡◌, ℕ, ◌≤◌, ◌<◌, ℤ, length}
+use Rattle.std.specs.Prelude.{List, ℕ, ◌≤◌, ◌<◌, ℤ, length}
 use Rattle.std.specs.Int.Signed.{mag}
 use Rattle.nodes.specs.Nodes.{word}
 use Rattle.nodes.specs.declared.Leaf.{Leaf}

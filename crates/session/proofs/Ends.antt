@@ -1,9 +1,9 @@
 -- What a call says and leaves, from what its parts say.
 use lib.IntN.{ℤ}
 use lib.ListN.{length, set}
-use mathlib.Core.Bool.{Bool, true, false}
+use mathlib.Core.Bool.{Bool}
 use mathlib.Core.List.{List}
-use mathlib.Core.Path.{◌≡◌, refl, sym, ap, ◌∙◌}
+use mathlib.Core.Path.{◌≡◌, ap, ◌∙◌}
 use Prim.Native.Nat.{ℕ, ◌+◌, ◌*◌}
 use Rattle.blend.specs.declared.WeightedHeader.{WeightedHeader}
 use Rattle.cells.specs.Cells.{start_cells, filled_cells}
@@ -11,13 +11,12 @@ use Rattle.flat.specs.FlatWalk.{flat_of}
 use Rattle.integer.specs.Fill.{filled}
 use Rattle.integer.specs.Order.{if}
 use Rattle.predict.specs.declared.neighbours.PredictionData.{PredictionData}
-use Rattle.refusal.specs.Paper.{Outcome, gives, refuses, paper}
+use Rattle.refusal.specs.Paper.{Outcome, gives, paper}
 use Rattle.refusal.specs.declared.Refusal.{Refusal}
 use Rattle.walk.specs.declared.PredictionResult.{PredictionResult}
 use Rattle.weighted.specs.declared.state.Answer.{Answer}
 use Rattle.weighted.specs.Memory.{needed}
 use Rattle.weighted.specs.State.{onward}
-use Rattle.weighted.specs.declared.state.WeightedState.{WeightedState}
 use Rattle.session.specs.Session.{width, column, line, closed, waiting, walked, walks_from, rows_of, answered_by, ask_by, may_ask, asks, Asking, Walks, Asks, passed, unpacked, learnt, put_by, may_put, puts, Putting, Puts, fresh, open_by, may_open, opens, Opening, Opens}
 use Rattle.session.specs.declared.AskAnswer.{AskAnswer}
 use Rattle.session.specs.declared.AskAnswer.TheVariants as asked

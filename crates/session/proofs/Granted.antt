@@ -5,8 +5,8 @@ use lib.IntN.{ℤ}
 use lib.ListN.{length, take, drop, length-drop}
 use lib.Seq.{length-take-le}
 use mathlib.Core.Bool.{Bool, true, false, ◌&&◌, not}
-use mathlib.Core.List.{List, []}
-use mathlib.Core.Path.{◌≡◌, refl, ap, sym, ◌∙◌}
+use mathlib.Core.List.{List}
+use mathlib.Core.Path.{◌≡◌, refl, sym, ◌∙◌}
 use native.Mathlib.Omega.{arith}
 use Prim.Native.Nat.{ℕ, ◌+◌, ◌-◌, ◌*◌, ◌/◌, ◌%◌, ◌≤◌, ◌<◌, ◌^◌}
 use Rattle.blend.specs.Blend.{in_range, possible}
@@ -15,16 +15,16 @@ use Rattle.cells.specs.Cells.{cells_needed, outcome}
 use Rattle.colour.proofs.RowWithin.{within}
 use Rattle.colour.specs.Rows.{is_row, row_of}
 use Rattle.flat.specs.Records.{counted}
-use Rattle.integer.proofs.Tests.{and_left, and_right, both, was_false}
+use Rattle.integer.proofs.Tests.{and_left, and_right, both}
 use Rattle.integer.specs.Fill.{filled}
 use Rattle.integer.specs.Order.{if}
 use Rattle.nodes.specs.Nodes.{then}
-use Rattle.predict.specs.Neighbours.{has_width, in_domain, neighbours}
+use Rattle.predict.specs.Neighbours.{has_width, neighbours}
 use Rattle.predict.specs.declared.neighbours.PredictionData.{PredictionData}
 use Rattle.refusal.specs.Paper.{Outcome, gives, refuses}
 use Rattle.weighted.proofs.Allowed.{may, test_passed}
 use Rattle.weighted.specs.Memory.{needed}
-use Rattle.weighted.specs.State.{test, is_width, is_place, at_start, answered, predicted_at, onward, asks, puts}
+use Rattle.weighted.specs.State.{test, is_width, is_place, at_start, answered, predicted_at, onward, puts}
 use Rattle.session.specs.Session.{width, column, line, is_pixel, is_lent, is_due, some_records, has_room, may_open, may_ask, may_put, rows_of, silent, answered_by, learnt}
 use Rattle.session.specs.Weights.{starts, starts_on, answers_of, learns, learns_on}
 use Rattle.session.specs.declared.Session.{Session}

@@ -22,8 +22,6 @@ use Rattle.weighted.specs.State.{test, is_width, at_start, nothing, answered, pr
 use Rattle.weighted.specs.declared.state.Answer.{Answer}
 use Rattle.weighted.specs.declared.state.WeightedState.{WeightedState}
 use Rattle.session.specs.declared.Session.{Session}
-use Rattle.session.specs.declared.Waiting.{Waiting}
-use Rattle.session.specs.declared.Kept.{Kept}
 use Rattle.session.specs.declared.checks.Check.{Check}
 use Rattle.session.specs.declared.checks.Check.TheVariants as check
 use Rattle.session.specs.declared.OpenAnswer.{OpenAnswer}

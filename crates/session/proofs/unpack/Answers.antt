@@ -1,24 +1,14 @@
 -- `unpack` meets its contract: bit patterns are added and multiplied modulo 2^32.
-use borrow.Author.Rules.{rules}
 use lib.IntN.{ℤ, pos, ◌+ℤ◌, ◌*ℤ◌}
-use mathlib.Core.Path.{◌≡◌, ap, ap₂, ◌∙◌}
+use mathlib.Core.Path.{ap, ap₂, ◌∙◌}
 use mir.Facts.{to_z-of_z}
 use mir.Syntax.{w32}
-use native.Mathlib.Nat.{mul-le-mul_right}
-use native.Mathlib.Omega.{arith}
-use Prim.Native.Nat.{ℕ, ◌*◌, ◌%◌, ◌≤◌}
+use Prim.Native.Nat.{ℕ, ◌*◌, ◌%◌}
 use Rattle.integer.proofs.Bounded.{held}
 use Rattle.integer.proofs.Wrap.{wrap_plus_left, wrap_plus_right}
 use Rattle.integer.specs.Word.{wrap}
 use Rattle.session.proofs.Product.{product_word}
 use Rattle.session.proofs.unpack.Goals as goal
-
-pub overflow_mul-product : goal.overflow_mul-product
-overflow_mul-product c =
-    let b = c.args.multiplier in
-    let a = c.to_bits.result in
-    let low : a ≤ 4294967295 = omega (arith, c.to_bits.type_inv) in
-    omega (arith, mul-le-mul_right b low, c.ranges.multiplier)
 
 pub returns : goal.returns
 returns c =

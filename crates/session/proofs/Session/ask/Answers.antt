@@ -1,5 +1,4 @@
 -- `ask` meets its promise: a refusal is that of the tests, and past them neither the fetch nor the weighted state refuses.
-use borrow.Author.Rules.{rules}
 use lib.ListN.{length}
 use mathlib.Core.Path.{◌≡◌, sym, ap, ◌∙◌}
 use Rattle.predict.specs.Neighbours as fetching
@@ -10,14 +9,6 @@ use Rattle.session.specs.Session.{may_ask, rows_of, answered_by, said_check}
 use Rattle.session.proofs.Ends.{ask_refused, ask_walked}
 use Rattle.session.proofs.Granted.{AskGranted, ask_granted, fetches, answers, fills}
 use Rattle.session.proofs.Session.ask.Goals as goal
-
-pub neighbours-fetched-requires : goal.neighbours-fetched-requires
-neighbours-fetched-requires c =
-    -- past the tests
-    let passed : gives tt ≡ may_ask c.args.self (length c.args.plane.now) (length c.args.references.now) c.args.records.now (length c.args.cells.now) (length c.args.memory.now) = sym (ap said_check c.in-Passed.is) ∙ c.check_ask-checked.ensures in
-    let granted : AskGranted c.args.self (length c.args.plane.now) (length c.args.references.now) (length c.args.cells.now) (length c.args.memory.now) =
-    ask_granted c.args.self (length c.args.plane.now) (length c.args.references.now) c.args.records.now (length c.args.cells.now) (length c.args.memory.now) (sym passed) in
-    granted.is_pixel_lem
 
 pub walk-requires : goal.walk-requires
 walk-requires c =

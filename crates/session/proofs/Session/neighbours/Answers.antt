@@ -1,5 +1,4 @@
 -- `neighbours` meets its contract: the rows are parts of the plane.
-use borrow.Author.Rules.{rules}
 use borrow.Author.Tests.{ltb-true, ltb-false}
 use lib.Dec.{ltb}
 use lib.ListN.{length, take, drop}
@@ -9,8 +8,8 @@ use mathlib.Core.Path.{◌≡◌, refl, sym, ap, ◌∙◌}
 use lib.IntN.{ℤ}
 use native.Mathlib.Omega.{arith}
 use Rattle.colour.specs.Rows.{is_row}
-use Prim.Native.Nat.{ℕ, ◌+◌, ◌-◌, ◌*◌, ◌≤◌, ◌<◌}
-use Rattle.session.proofs.Granted.{Pixel, pixel, own_words, row_words, row_room}
+use Prim.Native.Nat.{ℕ, ◌+◌, ◌-◌, ◌*◌}
+use Rattle.session.proofs.Granted.{Pixel, pixel, own_words, row_words}
 use Rattle.session.proofs.Session.neighbours.Goals as goal
 
 both : (a b w : ℕ) → a * w + b * w ≡ (a + b) * w
@@ -28,36 +27,6 @@ up y k w = by (ltb y k) refl
     by false least =
         let whole : (y - k) + k ≡ y = omega (arith, ltb-false y k least) in
         omega (arith, both (y - k) k w, ap (λ (n : ℕ). n * w) whole)
-
-pub overflow_mul-start : goal.overflow_mul-start
-overflow_mul-start c =
-    let inside : Pixel c.args.self (length c.args.plane.now) = pixel c.args.self (length c.args.plane.now) c.requires in
-    omega (arith, inside.within, c.well_formed)
-
-pub row_from-requires : goal.row_from-requires
-row_from-requires c =
-    let inside : Pixel c.args.self (length c.args.plane.now) = pixel c.args.self (length c.args.plane.now) c.requires in
-    inside.within
-
-pub row_from-requires-2 : goal.row_from-requires-2
-row_from-requires-2 c =
-    let plane : List ℤ = c.args.plane.now in
-    let y : ℕ = c.args.self.weighted.y in
-    let w : ℕ = c.args.self.weighted.width in
-    let inside : Pixel c.args.self (length c.args.plane.now) = pixel c.args.self (length c.args.plane.now) c.requires in
-    let there : is_row (length plane) w y ≡ true = inside.there in
-    let one_up : c.start_above-one_up.result ≡ (y - 1) * w = omega (arith, c.start_above-one_up.ensures, up y 1 w) in
-    rw one_up (row_room plane w y 1 there)
-
-pub row_from-requires-3 : goal.row_from-requires-3
-row_from-requires-3 c =
-    let plane : List ℤ = c.args.plane.now in
-    let y : ℕ = c.args.self.weighted.y in
-    let w : ℕ = c.args.self.weighted.width in
-    let inside : Pixel c.args.self (length c.args.plane.now) = pixel c.args.self (length c.args.plane.now) c.requires in
-    let there : is_row (length plane) w y ≡ true = inside.there in
-    let two_up : c.start_above-two_up.result ≡ (y - 2) * w = omega (arith, c.start_above-two_up.ensures, c.start_above-one_up.ensures, up y 2 w) in
-    rw two_up (row_room plane w y 2 there)
 
 pub returns : goal.returns
 returns c =

@@ -1,11 +1,10 @@
 -- `put` meets its promise: a refusal is that of the tests, and past them the weighted state learns and the pixel lies in the plane.
-use borrow.Author.Rules.{rules}
 use lib.ListN.{length, set}
 use mathlib.Core.Path.{◌≡◌, sym, ap, ◌∙◌}
 use mir.Facts.{to_z-of_z}
 use mir.Syntax.{w32, w64}
 use native.Mathlib.Omega.{arith}
-use Prim.Native.Nat.{ℕ, ◌+◌, ◌*◌, ◌<◌, ◌≤◌}
+use Prim.Native.Nat.{◌+◌, ◌*◌, ◌<◌}
 use Rattle.integer.proofs.Bounded.{held}
 use Rattle.refusal.proofs.Outcomes.{same_given, no_refusal}
 use Rattle.refusal.specs.Paper.{gives}

@@ -1,7 +1,5 @@
 -- `walk` meets its contract: the cells are filled, and the walk's answer or refusal decides.
-use borrow.Author.Rules.{rules}
 use lib.IntN.{ℤ}
-use lib.ListN.{length}
 use mathlib.Core.List.{List}
 use mathlib.Core.Path.{◌≡◌, sym, ap, ◌∙◌}
 use mir.Syntax.{w32, w64}
@@ -9,18 +7,11 @@ use Rattle.cells.specs.Cells.{filled_cells, outcome}
 use Rattle.cells.specs.Cells as cells
 use Rattle.flat.specs.FlatWalk.{flat_of}
 use Rattle.integer.proofs.Bounded.{held}
-use Rattle.refusal.proofs.Outcomes.{no_refusal}
-use Rattle.refusal.specs.Paper.{Outcome, gives, refuses}
+use Rattle.refusal.specs.Paper.{Outcome}
 use Rattle.walk.specs.Walk as walking
 use Rattle.session.specs.Session.{column, line}
 use Rattle.session.proofs.Ends.{refused_walk, ended_walk}
 use Rattle.session.proofs.Session.walk.Goals as goal
-
-pub returns-in-Refused : goal.returns-in-Refused
-returns-in-Refused c =
-    -- no argument is refused
-    let passes : cells.said c.compute_properties-filled.result ≡ gives tt = c.compute_properties-filled.ensures.answers ∙ c.requires in
-    absurd (no_refusal (sym (ap cells.said c.in-Refused.is) ∙ passes))
 
 pub returns-in-Refused-walked : goal.returns-in-Refused-walked
 returns-in-Refused-walked c =
