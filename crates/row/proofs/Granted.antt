@@ -1,7 +1,7 @@
 -- Past the tests of a row: its lists are as long as the row, which has pixels, and its first is due.
 use borrow.Author.Tests.{eqb-true}
 use lib.Dec.{leb, eqb}
-use mathlib.Core.Bool.{true, ◌&&◌, not}
+use mathlib.Core.Bool.{◌&&◌, not}
 use mathlib.Core.Path.{◌≡◌}
 use native.Mathlib.Nat.{div-add-mod'}
 use native.Mathlib.Omega.{arith}

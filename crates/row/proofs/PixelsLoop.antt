@@ -1,17 +1,11 @@
 -- What a loop of `pixels` keeps.
-use borrow.Author.Rules.{rules}
-use lib.IntN.{ℤ, pos}
-use lib.ListN.{length, length-set, get_or, take, drop}
+use lib.IntN.{ℤ}
+use lib.ListN.{length}
 use mathlib.Core.List.{List}
-use mathlib.Core.Path.{◌≡◌, refl, sym, ap, ◌∙◌}
-use mir.Syntax.{w32}
-use native.Mathlib.Omega.{arith}
-use Prim.Native.Nat.{ℕ, ◌+◌, ◌-◌, ◌*◌, ◌≤◌, ◌<◌}
-use Rattle.integer.proofs.Bounded.{held}
-use Rattle.session.specs.Session.{Asks, Puts}
+use mathlib.Core.Path.{◌≡◌}
+use Prim.Native.Nat.{ℕ, ◌-◌, ◌≤◌}
 use Rattle.session.specs.declared.Session.{Session}
-use Rattle.row.specs.Row.{Row, part_of, pixels_from}
-use Rattle.row.proofs.Steps.{ask_ends, put_ends, goes_on}
+use Rattle.row.specs.Row.{pixels_from}
 
 pub record Reached (residuals references records : List ℤ) (each : ℕ) (plane₀ : List ℤ) (contexts₀ : List ℕ) (cells₀ : List ℤ) (memory₀ : List ℕ) (s₀ : Session) (plane : List ℤ) (contexts : List ℕ) (cells : List ℤ) (memory : List ℕ) (s : Session) (k : ℕ) : Type 0 where
   pub within : k ≤ length residuals

@@ -10,7 +10,6 @@ use Rattle.session.specs.declared.Session.{Session}
 use Rattle.weighted.specs.State.{test}
 use Rattle.row.specs.declared.Check.{Check}
 use Rattle.row.specs.declared.Check.TheVariants as check
-use Rattle.row.specs.declared.Halted.{Halted}
 use Rattle.row.specs.declared.RowAnswer.{RowAnswer}
 use Rattle.row.specs.declared.RowAnswer.TheVariants as row
 

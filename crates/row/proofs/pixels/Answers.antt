@@ -1,16 +1,12 @@
 -- `pixels` meets its contract. The invariant: the row from here on ends as the whole row does.
-use Rattle.row.proofs.PixelsLoop.{Reached}
-use borrow.Author.Rules.{rules}
-use lib.IntN.{ℤ, pos}
+use lib.IntN.{pos}
 use lib.ListN.{length, length-set, get_or, take, drop}
-use mathlib.Core.List.{List}
-use mathlib.Core.Path.{◌≡◌, refl, sym, ap, ◌∙◌}
+use mathlib.Core.Path.{◌≡◌, sym, ap, ◌∙◌}
 use mir.Syntax.{w32}
 use native.Mathlib.Omega.{arith}
 use Prim.Native.Nat.{ℕ, ◌+◌, ◌-◌, ◌*◌, ◌≤◌, ◌<◌}
 use Rattle.integer.proofs.Bounded.{held}
 use Rattle.session.specs.Session.{Asks, Puts}
-use Rattle.session.specs.declared.Session.{Session}
 use Rattle.row.specs.Row.{Row, part_of, pixels_from}
 use Rattle.row.proofs.Steps.{ask_ends, put_ends, goes_on}
 use Rattle.row.proofs.pixels.Goals as goal
@@ -21,71 +17,6 @@ part_room k n each size less room =
     let whole : (n - (k + 1)) + (k + 1) ≡ n = omega (arith, less) in
     let spread : (n - (k + 1)) * each + (k + 1) * each ≡ ((n - (k + 1)) + (k + 1)) * each = omega arith in
     omega (arith, spread, ap (λ (m : ℕ). m * each) whole, room)
-
-pub loop-k-init : goal.loop-k-init
-loop-k-init c =
-    let n : ℕ = length c.args.residuals.now in
-    let n = length c.args.residuals.now in
-    let none : n - 0 ≡ n = omega arith in
-    record { within = omega arith; plane_long = refl; contexts_long = refl; cells_long = refl; memory_long = refl; ends_alike = rw none }
-
-pub overflow_mul-from : goal.overflow_mul-from
-overflow_mul-from c =
-    let n : ℕ = length c.args.residuals.now in
-    let below : c.loop-k.k < n = c.loop-k-test.true in
-    let room : c.loop-k.k * c.args.each + c.args.each ≤ length c.args.references.now = part_room c.loop-k.k n c.args.each (length c.args.references.now) below c.requires.2 in
-    omega (arith, room, c.well_formed)
-
-pub overflow_add-from : goal.overflow_add-from
-overflow_add-from c =
-    let n : ℕ = length c.args.residuals.now in
-    let below : c.loop-k.k < n = c.loop-k-test.true in
-    let room : c.loop-k.k * c.args.each + c.args.each ≤ length c.args.references.now = part_room c.loop-k.k n c.args.each (length c.args.references.now) below c.requires.2 in
-    omega (arith, room, c.well_formed)
-
-pub offset_bounds-references-from : goal.offset_bounds-references-from
-offset_bounds-references-from c =
-    let n : ℕ = length c.args.residuals.now in
-    let below : c.loop-k.k < n = c.loop-k-test.true in
-    let room : c.loop-k.k * c.args.each + c.args.each ≤ length c.args.references.now = part_room c.loop-k.k n c.args.each (length c.args.references.now) below c.requires.2 in
-    omega (arith, room, c.well_formed)
-
-pub offset_bounds-contexts-k : goal.offset_bounds-contexts-k
-offset_bounds-contexts-k c =
-    let n : ℕ = length c.args.residuals.now in
-    let below : c.loop-k.k < n = c.loop-k-test.true in
-    omega (arith, below, c.well_formed)
-
-pub bounds-contexts-k : goal.bounds-contexts-k
-bounds-contexts-k c =
-    let n : ℕ = length c.args.residuals.now in
-    let below : c.loop-k.k < n = c.loop-k-test.true in
-    omega (arith, below, c.loop-k.invariant.contexts_long, c.requires.1)
-
-pub offset_bounds-residuals-k : goal.offset_bounds-residuals-k
-offset_bounds-residuals-k c =
-    let n : ℕ = length c.args.residuals.now in
-    let below : c.loop-k.k < n = c.loop-k-test.true in
-    omega (arith, below, c.well_formed)
-
-pub stopped-requires : goal.stopped-requires
-stopped-requires c =
-    let n : ℕ = length c.args.residuals.now in
-    let below : c.loop-k.k < n = c.loop-k-test.true in
-    omega (arith, below, c.requires.0)
-
-pub shape_of-plane-in-Refused-put : goal.shape_of-plane-in-Refused-put
-shape_of-plane-in-Refused-put c = c.plane-1.given ∙ c.loop-k.invariant.plane_long
-
-pub shape_of-contexts-in-Refused-put : goal.shape_of-contexts-in-Refused-put
-shape_of-contexts-in-Refused-put c = simp length-set c.loop-k.invariant.contexts_long
-
-pub shape_of-cells-in-Refused-put : goal.shape_of-cells-in-Refused-put
-shape_of-cells-in-Refused-put c =
-    c.cells-1.given ∙ c.loop-k.invariant.cells_long
-
-pub shape_of-memory-in-Refused-put : goal.shape_of-memory-in-Refused-put
-shape_of-memory-in-Refused-put c = c.memory-1.given ∙ c.loop-k.invariant.memory_long
 
 pub returns-in-Refused-put : goal.returns-in-Refused-put
 returns-in-Refused-put c =
@@ -107,12 +38,6 @@ returns-in-Refused-put c =
     let end = put_ends s.residuals.now s.references.now s.records.now s.each l.session l.plane l.contexts l.cells l.memory n l.k below asks_it c.in-Is.waiting c.in-Is.is puts_it c.in-Refused-put.kept c.in-Refused-put.is in
     record { is = rw c.stopped.ensures (whole _ end) }
 
-pub stopped-requires-in-Refused : goal.stopped-requires-in-Refused
-stopped-requires-in-Refused c =
-    let n : ℕ = length c.args.residuals.now in
-    let below : c.loop-k.k < n = c.loop-k-test.true in
-    omega (arith, below, c.requires.0)
-
 pub returns-in-Refused : goal.returns-in-Refused
 returns-in-Refused c =
     let n : ℕ = length c.args.residuals.now in
@@ -130,18 +55,6 @@ returns-in-Refused c =
     let l = c.loop-k in
     let end = ask_ends s.residuals.now s.references.now s.records.now s.each l.session l.plane l.contexts l.cells l.memory n l.k below asks_it c.in-Refused.kept c.in-Refused.is in
     record { is = rw c.stopped-in-Refused.ensures (whole _ end) }
-
-pub overflow_add-k : goal.overflow_add-k
-overflow_add-k c =
-    let n : ℕ = length c.args.residuals.now in
-    let below : c.loop-k.k < n = c.loop-k-test.true in
-    omega (arith, below, c.well_formed)
-
-pub loop-k-smaller : goal.loop-k-smaller
-loop-k-smaller c =
-    let n : ℕ = length c.args.residuals.now in
-    let below : c.loop-k.k < n = c.loop-k-test.true in
-    omega (arith, below)
 
 pub loop-k-preserved : goal.loop-k-preserved
 loop-k-preserved c =

@@ -1,17 +1,6 @@
 -- `pixels` meets its contract. The invariant: the row from here on ends as the whole row does.
-use borrow.Author.Rules.{rules}
-use lib.IntN.{ℤ, pos}
-use lib.ListN.{length, length-set, get_or, take, drop}
-use mathlib.Core.List.{List}
-use mathlib.Core.Path.{◌≡◌, refl, sym, ap, ◌∙◌}
-use mir.Syntax.{w32}
-use native.Mathlib.Omega.{arith}
-use Prim.Native.Nat.{ℕ, ◌+◌, ◌-◌, ◌*◌, ◌≤◌, ◌<◌}
-use Rattle.integer.proofs.Bounded.{held}
-use Rattle.session.specs.Session.{Asks, Puts}
-use Rattle.session.specs.declared.Session.{Session}
-use Rattle.row.specs.Row.{Row, part_of, pixels_from}
-use Rattle.row.proofs.Steps.{ask_ends, put_ends, goes_on}
+use lib.ListN.{length}
+use Prim.Native.Nat.{◌-◌}
 use Rattle.row.proofs.PixelsLoop.{Reached}
 use Rattle.row.proofs.pixels.Given as goal
 

@@ -1,21 +1,11 @@
 -- `unpack_row` meets its contract: the tests, then the pixels.
-use borrow.Author.Rules.{rules}
 use lib.ListN.{length}
 use mathlib.Core.Path.{◌≡◌, sym, ap, ◌∙◌}
 use native.Mathlib.Omega.{arith}
-use Prim.Native.Nat.{ℕ, ◌*◌, ◌/◌, ◌≤◌}
 use Rattle.refusal.specs.Paper.{gives}
 use Rattle.row.specs.Row.{said_check, may_unpack, unpacks}
 use Rattle.row.proofs.Granted.{RowGranted, row_granted}
 use Rattle.row.proofs.unpack_row.Goals as goal
-
-pub nonzero_div-each : goal.nonzero_div-each
-nonzero_div-each c =
-    let passed : let s = c.args in may_unpack s.session (length s.plane.now) (length s.residuals.now) (length s.contexts.now) (length s.references.now) ≡ gives tt = sym c.check_row-checked.ensures ∙ ap said_check c.in-Passed.is in
-    let granted : let s = c.args in RowGranted s.session (length s.plane.now) (length s.residuals.now) (length s.contexts.now) (length s.references.now) =
-    let s = c.args in
-    row_granted s.session (length s.plane.now) (length s.residuals.now) (length s.contexts.now) (length s.references.now) passed in
-    omega (arith, granted.residuals_long, granted.placed.some)
 
 pub pixels-requires : goal.pixels-requires
 pixels-requires c =
