@@ -6,14 +6,17 @@
 use predict::neighbours::PredictionData;
 use refusal::Refusal;
 
+// The number of standard output.
+const STDOUT: i32 = 1;
+
 // The bytes as they are.
 pub fn text(bytes: &[u8]) {
-    io::write_all(libc::STDOUT_FILENO, bytes);
+    io::write_all(STDOUT, bytes);
 }
 
 // n in decimal.
 pub fn natural(n: u64) {
-    io::print_decimal(libc::STDOUT_FILENO, n);
+    io::print_decimal(STDOUT, n);
 }
 
 // |n|. That of -2^63 fits no i64: one is added after the sign is gone.
