@@ -1,5 +1,4 @@
 -- `naturals` is safe and ends, as `words` is.
-use borrow.Author.Rules.{rules}
 use Prim.Native.Nat.{◌-◌}
 use lib.ListN.{length}
 use Rattle.print.proofs.naturals.Given as goal

@@ -1,5 +1,4 @@
 -- `words` is safe and ends: the loop's own test bounds each index, and what is left falls. Nothing has to hold from turn to turn.
-use borrow.Author.Rules.{rules}
 use Prim.Native.Nat.{◌-◌}
 use lib.ListN.{length}
 use Rattle.print.proofs.words.Given as goal
