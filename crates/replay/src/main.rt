@@ -13,7 +13,10 @@ mod trees;
 mod walks;
 mod words;
 
+ghost use Rattle.std.specs.Prelude.{◌≤◌, length};
+
 use outcome::Outcome;
+use std::io::Read;
 use tally::Tally;
 
 #[derive(Drop)]
@@ -46,33 +49,48 @@ fn compare(bytes: &[u8], equal: Tally) -> Step {
     Step::On(tally)
 }
 
+// Reads until the bytes are full, the input ends or a read fails, and answers how many bytes came.
+fn read_full(input: &mut impl Read, bytes: &mut [u8]) -> usize
+    ensures { result ≤ length bytes.old }
+{
+    let mut done = 0;
+    while done < bytes.len() {
+        match input.read(&mut bytes[done..]) {
+            Ok(0) => return done,
+            Ok(n) => {
+                done += n;
+            }
+            Err(_) => return done,
+        }
+    }
+    done
+}
+
 // Whether a read finds the end. `read_full` reads nothing at the end and where a read fails.
-fn is_at_end() -> bool {
+fn is_at_end(input: &mut impl Read) -> bool {
     let mut byte = [0u8; 1];
-    libc::read(libc::STDIN_FILENO, &mut byte) == 0
+    matches!(input.read(&mut byte), Ok(0))
 }
 
 // Reads up to 512 records. A buffer that is not full is the last one, so no record lies in two.
-fn read_some(equal: Tally) -> Step {
-    let mut buffer = io::large_buffer();
-    let n = io::read_full(libc::STDIN_FILENO, &mut buffer);
+fn read_some(input: &mut impl Read, equal: Tally) -> Step {
+    let mut buffer = [0u8; 65536];
+    let n = read_full(input, &mut buffer);
     if 0 < n {
         return compare(&buffer[..n], equal);
     }
-    if is_at_end() {
+    if is_at_end(input) {
         Step::Ended(equal)
     } else {
         Step::Stopped(equal, Outcome::Unread)
     }
 }
 
-// Nothing says that an input ends, so the loop counts down from a number that no run uses up.
-fn read_all() -> Step {
+// Nothing says that an input ends, so the loop has a number of turns that no run uses up.
+fn read_all(input: &mut impl Read) -> Step {
     let mut tally = Tally::none();
-    let mut turns = u64::MAX;
-    while turns > 0 {
-        turns -= 1;
-        match read_some(tally) {
+    for _ in 0..u64::MAX {
+        match read_some(input, tally) {
             Step::On(next) => {
                 tally = next;
             }
@@ -88,40 +106,40 @@ fn read_all() -> Step {
 }
 
 // No record at all is no success: then the input is missing.
-fn end(tally: Tally) {
+fn end(rt: &impl Print, tally: Tally) {
     if tally.all == 0 {
-        tally::text(b"no records\n");
+        tally::text(rt, "no records\n");
     } else {
-        tally::text(b"all equal\n");
+        tally::text(rt, "all equal\n");
     }
 }
 
-fn stop(tally: Tally, why: Outcome) {
-    tally::text(b"record ");
-    tally::natural(tally.all);
+fn stop(rt: &impl Print, tally: Tally, why: Outcome) {
+    tally::text(rt, "record ");
+    tally::natural(rt, tally.all);
     match why {
-        Outcome::Equal => tally::text(b" is equal\n"),
-        Outcome::Differs => tally::text(b" differs\n"),
-        Outcome::Refused => tally::text(b" is refused\n"),
-        Outcome::NoForm => tally::text(b" has no form\n"),
-        Outcome::CutShort => tally::text(b" is cut short\n"),
-        Outcome::Unread => tally::text(b" cannot be read\n"),
+        Outcome::Equal => tally::text(rt, " is equal\n"),
+        Outcome::Differs => tally::text(rt, " differs\n"),
+        Outcome::Refused => tally::text(rt, " is refused\n"),
+        Outcome::NoForm => tally::text(rt, " has no form\n"),
+        Outcome::CutShort => tally::text(rt, " is cut short\n"),
+        Outcome::Unread => tally::text(rt, " cannot be read\n"),
     }
 }
 
-fn main() {
-    match read_all() {
+fn main(rt: HostRuntime) {
+    match read_all(&mut rt.reader()) {
         Step::On(tally) => {
-            tally.print();
-            tally::text(b"the input goes on\n");
+            tally.print(&rt);
+            tally::text(&rt, "the input goes on\n");
         }
         Step::Ended(tally) => {
-            tally.print();
-            end(tally);
+            tally.print(&rt);
+            end(&rt, tally);
         }
         Step::Stopped(tally, why) => {
-            tally.print();
-            stop(tally, why);
+            tally.print(&rt);
+            stop(&rt, tally, why);
         }
     }
 }

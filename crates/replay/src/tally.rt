@@ -1,5 +1,5 @@
 // How many records of each kind were equal, and how many in all. The counts wrap, past any input.
-#[derive(Drop)]
+#[derive(Clone, Copy)]
 pub struct Tally {
     pub all: u64,
     pub floor_log2: u64,
@@ -94,34 +94,35 @@ impl Tally {
         self
     }
 
-    pub fn print(self) {
-        line(b"floor_log2_nonzero: ", self.floor_log2);
-        line(b"error_weight: ", self.error_weight);
-        line(b"get_rows: ", self.get_rows);
-        line(b"update_for_interior_row: ", self.update);
-        line(b"predict_one: ", self.predict_one);
-        line(b"do_rct_step: ", self.do_rct_step);
-        line(b"predict_and_property: ", self.predict_and_property);
-        line(b"update_errors: ", self.update_errors);
-        line(b"compute_used_property_mask: ", self.mask);
-        line(b"validate_tree: ", self.validate_tree);
-        line(b"compute_properties: ", self.compute_properties);
-        line(b"predict: ", self.predict);
-        line(b"build_flat_tree: ", self.build_flat_tree);
-        line(b"predict_flat: ", self.predict_flat);
+    pub fn print(self, rt: &impl Print) {
+        line(rt, "floor_log2_nonzero: ", self.floor_log2);
+        line(rt, "error_weight: ", self.error_weight);
+        line(rt, "get_rows: ", self.get_rows);
+        line(rt, "update_for_interior_row: ", self.update);
+        line(rt, "predict_one: ", self.predict_one);
+        line(rt, "do_rct_step: ", self.do_rct_step);
+        line(rt, "predict_and_property: ", self.predict_and_property);
+        line(rt, "update_errors: ", self.update_errors);
+        line(rt, "compute_used_property_mask: ", self.mask);
+        line(rt, "validate_tree: ", self.validate_tree);
+        line(rt, "compute_properties: ", self.compute_properties);
+        line(rt, "predict: ", self.predict);
+        line(rt, "build_flat_tree: ", self.build_flat_tree);
+        line(rt, "predict_flat: ", self.predict_flat);
     }
 }
 
-pub fn text(bytes: &[u8]) {
-    io::write_all(libc::STDOUT_FILENO, bytes);
+// That standard output cannot be written is told nowhere.
+pub fn text(rt: &impl Print, words: &str) {
+    let _ = rt.print(words);
 }
 
-pub fn natural(n: u64) {
-    io::print_decimal(libc::STDOUT_FILENO, n);
+pub fn natural(rt: &impl Print, n: u64) {
+    let _ = rt.print(n);
 }
 
-fn line(name: &[u8], n: u64) {
-    text(name);
-    natural(n);
-    text(b" equal\n");
+fn line(rt: &impl Print, name: &str, n: u64) {
+    text(rt, name);
+    natural(rt, n);
+    text(rt, " equal\n");
 }

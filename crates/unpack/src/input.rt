@@ -1,10 +1,11 @@
-// Words from standard input, the low byte first. No contract can say what a call of C's reads, so those of the functions that call
-// it say how many words there are at the most.
+// Words from standard input, the low byte first. No contract can say what standard input gives, so those of the functions that
+// read it say how many words there are at the most.
 ghost use Rattle.std.specs.Prelude.{◌≡◌, ◌+◌, ◌*◌, ◌≤◌, ◌<◌, length};
 ghost use Rattle.unpack.specs.Bytes.{word_at, PutsWords};
 
 use crate::said;
 use integer::from_bits;
+use std::io::Read;
 
 fn wide(byte: u8) -> u32
     ensures { (result ≡ byte) × (result < 256) }
@@ -41,32 +42,49 @@ fn put_words(bytes: &[u8], words: &mut [i32]) -> usize
     k
 }
 
-fn read_into(bytes: &mut [u8], words: &mut [i32]) -> usize
+// Reads until the bytes are full, the input ends or a read fails, and answers how many bytes came.
+fn read_full(input: &mut impl Read, bytes: &mut [u8]) -> usize
+    ensures { result ≤ length bytes.old }
+{
+    let mut done = 0;
+    while done < bytes.len() {
+        match input.read(&mut bytes[done..]) {
+            Ok(0) => return done,
+            Ok(n) => {
+                done += n;
+            }
+            Err(_) => return done,
+        }
+    }
+    done
+}
+
+fn read_into(rt: &impl Input, bytes: &mut [u8], words: &mut [i32]) -> usize
     ensures { result ≤ length words.old }
 {
-    let n = io::read_full(libc::STDIN_FILENO, bytes);
+    let n = read_full(&mut rt.reader(), bytes);
     put_words(&bytes[..n], words)
 }
 
 // Reads no byte beyond the words.
-fn read_some(words: &mut [i32]) -> usize
+fn read_some(rt: &impl Input, words: &mut [i32]) -> usize
     ensures { result ≤ length words.old }
 {
-    let mut buffer = io::large_buffer();
+    let mut buffer = [0u8; 65536];
     if words.len() < 16384 {
         let n = 4 * words.len();
-        return read_into(&mut buffer[0..n], words);
+        return read_into(rt, &mut buffer[0..n], words);
     }
-    read_into(&mut buffer, words)
+    read_into(rt, &mut buffer, words)
 }
 
 // Fills the words from the front, and answers how many came before the input ended.
-pub fn read(words: &mut [i32]) -> usize
+pub fn read(rt: &impl Input, words: &mut [i32]) -> usize
     ensures { result ≤ length words.old }
 {
     let mut done = 0;
     while done < words.len() {
-        let got = read_some(&mut words[done..]);
+        let got = read_some(rt, &mut words[done..]);
         if got == 0 {
             return done;
         }
@@ -76,13 +94,13 @@ pub fn read(words: &mut [i32]) -> usize
 }
 
 // Whether the input has ended. A read that fails is no end.
-pub fn is_at_end() -> bool {
+pub fn is_at_end(rt: &impl Input) -> bool {
     let mut byte = [0u8; 1];
-    libc::read(libc::STDIN_FILENO, &mut byte) == 0
+    matches!(rt.reader().read(&mut byte), Ok(0))
 }
 
-pub fn expect_end() {
-    if !is_at_end() {
-        said::text(b"the input goes on after the last residual\n");
+pub fn expect_end(rt: &(impl Eprint + Input)) {
+    if !is_at_end(rt) {
+        said::text(rt, "the input goes on after the last residual\n");
     }
 }

@@ -24,20 +24,28 @@ use session::{OpenAnswer, Session};
 use tree::Flattening;
 
 // Tells what is not as it should be.
-fn tell(stop: Stop, got: usize, pixels: usize, done: usize, rows: usize) {
-    said::stopped(stop);
+fn tell(
+    rt: &(impl Eprint + Input),
+    stop: Stop,
+    got: usize,
+    pixels: usize,
+    done: usize,
+    rows: usize,
+) {
+    said::stopped(rt, stop);
     if got < pixels {
-        said::cut_short(b"residuals", got, pixels);
+        said::cut_short(rt, "residuals", got, pixels);
     } else {
-        input::expect_end();
+        input::expect_end(rt);
     }
     if done < rows {
-        said::rows_written(done, rows);
+        said::rows_written(rt, done, rows);
     }
 }
 
 // The residuals, unpacked where they stand, and the finished rows written.
 fn unpack(
+    rt: &(impl Eprint + Input + Print),
     packed: Packed,
     form: Form,
     session: Session,
@@ -46,16 +54,23 @@ fn unpack(
     cells: &mut [i32],
     memory: &mut [u32],
 ) {
-    let got = input::read(plane);
+    let got = input::read(rt, plane);
     let ended = channel::unpack(session, got, records, plane, cells, memory);
     let done = channel::whole_rows(ended.done, packed.width);
-    output::write(form, packed.width, packed.rows, done, plane);
+    output::write(rt, form, packed.width, packed.rows, done, plane);
     let stop = ended.stop;
-    tell(stop, got, plane.len(), done, packed.rows);
+    tell(rt, stop, got, plane.len(), done, packed.rows);
 }
 
 // With cells for every property, the largest of which is 255, and memory for the widest row.
-fn open(packed: Packed, form: Form, mask: u32, records: &[i32], plane: &mut [i32]) {
+fn open(
+    rt: &(impl Eprint + Input + Print),
+    packed: Packed,
+    form: Form,
+    mask: u32,
+    records: &[i32],
+    plane: &mut [i32],
+) {
     let mut cells = [0i32; 256];
     let mut memory = [0u32; 163860];
     let header = packed.header;
@@ -70,8 +85,9 @@ fn open(packed: Packed, form: Form, mask: u32, records: &[i32], plane: &mut [i32
         &mut memory,
     );
     match opened {
-        OpenAnswer::Refused(refusal) => said::refused(refusal),
+        OpenAnswer::Refused(refusal) => said::refused(rt, refusal),
         OpenAnswer::Is(session) => unpack(
+            rt,
             packed,
             form,
             session,
@@ -84,61 +100,68 @@ fn open(packed: Packed, form: Form, mask: u32, records: &[i32], plane: &mut [i32
 }
 
 // The tree, which is read, validated and flattened before any pixel.
-fn flatten(packed: Packed, form: Form, nodes: &mut [i32], records: &mut [i32], plane: &mut [i32]) {
-    let got = input::read(nodes);
+fn flatten(
+    rt: &(impl Eprint + Input + Print),
+    packed: Packed,
+    form: Form,
+    nodes: &mut [i32],
+    records: &mut [i32],
+    plane: &mut [i32],
+) {
+    let got = input::read(rt, nodes);
     if got < nodes.len() {
-        said::cut_short(b"words of nodes", got, nodes.len());
+        said::cut_short(rt, "words of nodes", got, nodes.len());
         return;
     }
     let flattened = tree::flatten(nodes, records);
     match flattened {
-        Flattening::Refused(refusal) => said::refused(refusal),
+        Flattening::Refused(refusal) => said::refused(rt, refusal),
         Flattening::Is(flat) => {
             let words = flat.words;
-            open(packed, form, flat.mask, &records[0..words], plane)
+            open(rt, packed, form, flat.mask, &records[0..words], plane)
         }
     }
 }
 
-fn with_tree(packed: Packed, form: Form, plane: &mut [i32])
+fn with_tree(rt: &(impl Eprint + Input + Print), packed: Packed, form: Form, plane: &mut [i32])
     requires { has_room packed ≡ true }
 {
     let mut nodes = [0i32; 40955];
     let mut records = [0i32; 98286];
     let words = 5 * packed.nodes;
-    flatten(packed, form, &mut nodes[0..words], &mut records, plane);
+    flatten(rt, packed, form, &mut nodes[0..words], &mut records, plane);
 }
 
 // All that is lent lies on the stack: some 5.5 MB of the 8 that a process has where nothing else is set.
-fn with_plane(packed: Packed, form: Form)
+fn with_plane(rt: &(impl Eprint + Input + Print), packed: Packed, form: Form)
     requires { has_room packed ≡ true }
 {
     let mut plane = [0i32; 1048576];
     let pixels = packed.rows * packed.width;
-    with_tree(packed, form, &mut plane[0..pixels]);
+    with_tree(rt, packed, form, &mut plane[0..pixels]);
 }
 
-fn check(packed: Packed, form: Form) {
+fn check(rt: &(impl Eprint + Input + Print), packed: Packed, form: Form) {
     if packed.fits() {
-        with_plane(packed, form);
+        with_plane(rt, packed, form);
     } else {
-        said::too_large();
+        said::too_large(rt);
     }
 }
 
-fn begin(form: Form) {
-    let read = packed::read();
+fn begin(rt: &(impl Eprint + Input + Print), form: Form) {
+    let read = packed::read(rt);
     match read {
-        ReadPacked::Is(packed) => check(packed, form),
-        ReadPacked::CutShort(got) => said::cut_short(b"words of the header", got, 17),
-        ReadPacked::Weights(word) => said::no_such_weights(word),
+        ReadPacked::Is(packed) => check(rt, packed, form),
+        ReadPacked::CutShort(got) => said::cut_short(rt, "words of the header", got, 17),
+        ReadPacked::Weights(word) => said::no_such_weights(rt, word),
     }
 }
 
-fn main() {
-    let form = output::wanted();
+fn main(rt: HostRuntime) {
+    let form = output::wanted(&rt);
     match form {
-        Form::Neither => said::usage(),
-        _ => begin(form),
+        Form::Neither => said::usage(&rt),
+        _ => begin(&rt, form),
     }
 }

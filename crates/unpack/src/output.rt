@@ -6,6 +6,8 @@ ghost use Rattle.unpack.specs.Bytes.{sample_of, word_byte, sample_byte, byte_of,
 
 use crate::said;
 use integer::to_bits;
+use std::env::FillError;
+use std::rt::Env;
 
 #[derive(Drop)]
 pub enum Form {
@@ -16,14 +18,23 @@ pub enum Form {
 }
 
 // By the program's argument: none, or `pgm`.
-pub fn wanted() -> Form {
-    let count = os::arg_count();
-    if count < 2 {
-        return Form::Words;
-    }
+pub fn wanted(rt: &impl Env) -> Form {
     let mut name = [0u8; 4];
-    let n = os::arg(1, &mut name);
-    if count == 2 && n == 3 && name[0] == b'p' && name[1] == b'g' && name[2] == b'm' {
+    match rt.arg(1, &mut name) {
+        Err(FillError::NotPresent) => Form::Words,
+        Err(FillError::TooLong) => Form::Neither,
+        Ok(n) => named(&name[..n], has_one_argument(rt)),
+    }
+}
+
+fn has_one_argument(rt: &impl Env) -> bool {
+    let mut name = [0u8; 4];
+    matches!(rt.arg(2, &mut name), Err(FillError::NotPresent))
+}
+
+// The form that an argument names, if it is the only one.
+fn named(name: &[u8], alone: bool) -> Form {
+    if alone && name.len() == 3 && name[0] == b'p' && name[1] == b'g' && name[2] == b'm' {
         Form::Picture
     } else {
         Form::Neither
@@ -99,22 +110,34 @@ fn put_bytes(plane: &[i32], picture: bool, from: usize, bytes: &mut [u8])
     }
 }
 
-fn write_part(plane: &[i32], picture: bool, from: usize, bytes: &mut [u8]) -> bool
+fn write_part(
+    rt: &impl Print,
+    plane: &[i32],
+    picture: bool,
+    from: usize,
+    bytes: &mut [u8],
+) -> bool
     requires { from + length bytes.old ≤ size_of picture (length plane.now) }
 {
     put_bytes(plane, picture, from, bytes);
-    io::write_all(libc::STDOUT_FILENO, bytes)
+    rt.write_all(bytes).is_ok()
 }
 
 // At most a buffer full. Answers whether it was written.
-fn write_some(plane: &[i32], picture: bool, from: usize, left: usize) -> bool
+fn write_some(
+    rt: &impl Print,
+    plane: &[i32],
+    picture: bool,
+    from: usize,
+    left: usize,
+) -> bool
     requires { from + left ≤ size_of picture (length plane.now) }
 {
-    let mut buffer = io::large_buffer();
+    let mut buffer = [0u8; 65536];
     if left < 65536 {
-        return write_part(plane, picture, from, &mut buffer[0..left]);
+        return write_part(rt, plane, picture, from, &mut buffer[0..left]);
     }
-    write_part(plane, picture, from, &mut buffer)
+    write_part(rt, plane, picture, from, &mut buffer)
 }
 
 // How many bytes the plane is.
@@ -128,11 +151,11 @@ fn size(plane: &[i32], picture: bool) -> usize
     }
 }
 
-fn write_plane(plane: &[i32], picture: bool) -> bool {
+fn write_plane(rt: &impl Print, plane: &[i32], picture: bool) -> bool {
     let size = size(plane, picture);
     let mut from = 0;
     while from < size {
-        if !write_some(plane, picture, from, size - from) {
+        if !write_some(rt, plane, picture, from, size - from) {
             return false;
         }
         if size - from < 65536 {
@@ -143,35 +166,42 @@ fn write_plane(plane: &[i32], picture: bool) -> bool {
     true
 }
 
-fn first_lines(width: usize, rows: usize) -> bool {
-    if !io::write_all(libc::STDOUT_FILENO, b"P5\n") {
+fn first_lines(rt: &impl Print, width: usize, rows: usize) -> bool {
+    if rt.print("P5\n").is_err() {
         return false;
     }
-    io::print_decimal(libc::STDOUT_FILENO, width as u64);
-    io::write_all(libc::STDOUT_FILENO, b" ");
-    io::print_decimal(libc::STDOUT_FILENO, rows as u64);
-    io::write_all(libc::STDOUT_FILENO, b"\n65535\n")
+    let _ = rt.print(width);
+    let _ = rt.print(" ");
+    let _ = rt.print(rows);
+    rt.print("\n65535\n").is_ok()
 }
 
-fn write_rows(form: Form, width: usize, rows: usize, plane: &[i32]) -> bool {
+fn write_rows(rt: &impl Print, form: Form, width: usize, rows: usize, plane: &[i32]) -> bool {
     match form {
         Form::Picture => {
-            if first_lines(width, rows) {
-                write_plane(plane, true)
+            if first_lines(rt, width, rows) {
+                write_plane(rt, plane, true)
             } else {
                 false
             }
         }
-        _ => write_plane(plane, false),
+        _ => write_plane(rt, plane, false),
     }
 }
 
 // The finished rows; for a picture after the lines that promise all of them.
-pub fn write(form: Form, width: usize, rows: usize, done: usize, plane: &[i32])
+pub fn write(
+    rt: &(impl Eprint + Print),
+    form: Form,
+    width: usize,
+    rows: usize,
+    done: usize,
+    plane: &[i32],
+)
     requires { done * width ≤ length plane.now }
 {
     let words = done * width;
-    if !write_rows(form, width, rows, &plane[0..words]) {
-        said::text(b"standard output cannot be written\n");
+    if !write_rows(rt, form, width, rows, &plane[0..words]) {
+        said::text(rt, "standard output cannot be written\n");
     }
 }

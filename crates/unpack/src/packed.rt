@@ -6,7 +6,7 @@ use crate::input;
 use blend::WeightedHeader;
 use integer::to_bits;
 
-#[derive(Drop)]
+#[derive(Clone, Copy)]
 pub struct Packed {
     pub width: usize,
     pub rows: usize,
@@ -58,10 +58,10 @@ fn packed_of(words: &[i32]) -> Packed
     }
 }
 
-fn read_into(words: &mut [i32]) -> ReadPacked
+fn read_into(rt: &impl Input, words: &mut [i32]) -> ReadPacked
     requires { 17 ≤ length words.old }
 {
-    let got = input::read(words);
+    let got = input::read(rt, words);
     if got < 17 {
         return ReadPacked::CutShort(got);
     }
@@ -72,9 +72,9 @@ fn read_into(words: &mut [i32]) -> ReadPacked
     ReadPacked::Is(packed_of(words))
 }
 
-pub fn read() -> ReadPacked {
+pub fn read(rt: &impl Input) -> ReadPacked {
     let mut words = [0i32; 17];
-    read_into(&mut words)
+    read_into(rt, &mut words)
 }
 
 impl Packed {

@@ -1,0 +1,9 @@
+-- What came lies within the bytes, and the room that is left falls.
+use Rattle.std.proofs.Common.{length, ◌-◌, ◌≤◌}
+use Rattle.replay.proofs.read_full.Given as goal
+
+abbrev pub invariant-loop-done : goal.invariant-loop-done
+invariant-loop-done g l = l.done ≤ length l.bytes
+
+abbrev pub decreases-loop-done : goal.decreases-loop-done
+decreases-loop-done g l = length l.initial.bytes - l.done
