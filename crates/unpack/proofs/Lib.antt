@@ -1,2 +1,3 @@
+pub mod Reached
 mod Sizes
 mod Turn

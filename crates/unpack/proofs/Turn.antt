@@ -11,7 +11,6 @@ use Rattle.session.specs.Session.{asks, puts, may_put, put_by, Putting, Asks, Pu
 use Rattle.session.specs.declared.AskAnswer.{AskAnswer}
 use Rattle.session.specs.declared.AskAnswer.TheVariants as asked
 use Rattle.session.specs.declared.PutAnswer.{PutAnswer}
-use Rattle.session.specs.declared.PutAnswer.TheVariants as put
 use Rattle.session.specs.declared.Session.{Session}
 use Rattle.session.specs.declared.Waiting.{Waiting}
 use Rattle.unpack.specs.Steps.{Before, one_pixel, steps, Goes}

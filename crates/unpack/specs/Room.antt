@@ -1,5 +1,5 @@
 -- What the program has room for.
-use Rattle.std.specs.Prelude.{Bool, ◌&&◌, ℕ, ◌*◌, leb}
+use Rattle.std.specs.Prelude.{Bool, ◌&&◌, ◌*◌, leb}
 use Rattle.unpack.specs.declared.packed.Packed.{Packed}
 
 -- 1,048,576 pixels in rows of at most 16,384, and 8,191 nodes

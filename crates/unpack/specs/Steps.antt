@@ -7,7 +7,6 @@ use Rattle.session.specs.declared.PutAnswer.{PutAnswer}
 use Rattle.session.specs.declared.PutAnswer.TheVariants as put
 use Rattle.session.specs.declared.Session.{Session}
 use Rattle.unpack.specs.declared.channel.Ended.{Ended}
-use Rattle.unpack.specs.declared.channel.Stop.{Stop}
 use Rattle.unpack.specs.declared.channel.Stop.TheVariants as stop
 
 -- the session and what is lent, before a pixel

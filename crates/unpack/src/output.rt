@@ -110,13 +110,7 @@ fn put_bytes(plane: &[i32], picture: bool, from: usize, bytes: &mut [u8])
     }
 }
 
-fn write_part(
-    rt: &impl Print,
-    plane: &[i32],
-    picture: bool,
-    from: usize,
-    bytes: &mut [u8],
-) -> bool
+fn write_part(rt: &impl Print, plane: &[i32], picture: bool, from: usize, bytes: &mut [u8]) -> bool
     requires { from + length bytes.old ≤ size_of picture (length plane.now) }
 {
     put_bytes(plane, picture, from, bytes);
@@ -124,13 +118,7 @@ fn write_part(
 }
 
 // At most a buffer full. Answers whether it was written.
-fn write_some(
-    rt: &impl Print,
-    plane: &[i32],
-    picture: bool,
-    from: usize,
-    left: usize,
-) -> bool
+fn write_some(rt: &impl Print, plane: &[i32], picture: bool, from: usize, left: usize) -> bool
     requires { from + left ≤ size_of picture (length plane.now) }
 {
     let mut buffer = [0u8; 65536];

@@ -47,11 +47,19 @@ fn empty_side(rt: &impl Eprint, side: Side) {
 // A refusal's words and details, as the table of document 01 has them.
 fn reason(rt: &impl Eprint, refusal: Refusal) {
     match refusal {
-        Refusal::WordCount => text(rt, "a word count that is no multiple of the node or record size"),
+        Refusal::WordCount => text(
+            rt,
+            "a word count that is no multiple of the node or record size",
+        ),
         Refusal::TooMany => text(rt, "too many nodes or records"),
-        Refusal::NotInForm { place: at } => place(rt, "a node or record that is not in its form", at),
+        Refusal::NotInForm { place: at } => place(
+            rt,
+            "a node or record that is not in its form",
+            at,
+        ),
         Refusal::OutOfPlace { place: at } => {
-            place(rt, 
+            place(
+                rt,
                 "children out of place, or a list too short or too long",
                 at,
             )
@@ -60,14 +68,18 @@ fn reason(rt: &impl Eprint, refusal: Refusal) {
         Refusal::TooDeep { place: at } => place(rt, "a node at depth 2049", at),
         Refusal::EmptySide(side) => empty_side(rt, side),
         Refusal::TooSmall { needed } => {
-            named(rt, 
+            named(
+                rt,
                 "a work area, memory, ring or output too small: words needed ",
                 needed,
             )
         }
         Refusal::WideOffset { place: at } => place(rt, "a leaf offset outside -32768..32767", at),
         Refusal::TooFewCells { needed } => named(rt, "too few cells: cells needed ", needed),
-        Refusal::WrongSize => text(rt, "a width, position, row length or plane length that is wrong"),
+        Refusal::WrongSize => text(
+            rt,
+            "a width, position, row length or plane length that is wrong",
+        ),
         Refusal::HeaderRange => text(rt, "a header value out of range"),
         Refusal::OutOfTurn => text(rt, "a call out of turn"),
         Refusal::NoSuchColour => text(rt, "a colour operation over 6 or an order over 5"),
@@ -113,7 +125,8 @@ pub fn rows_written(rt: &impl Eprint, done: usize, rows: usize) {
 }
 
 pub fn too_large(rt: &impl Eprint) {
-    text(rt, 
+    text(
+        rt,
         "too large for this program, which has room for 1048576 pixels, a width of 16384 and 8191 nodes\n",
     );
 }

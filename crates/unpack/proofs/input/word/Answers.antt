@@ -1,5 +1,4 @@
 -- `word` meets its contract: four bytes, each at its own power of 256.
-use borrow.Author.Rules.{rules}
 use mathlib.Core.Path.{◌∙◌}
 use mir.Syntax.{w32}
 use Rattle.integer.proofs.Bounded.{held}

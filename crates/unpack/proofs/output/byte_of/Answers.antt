@@ -1,6 +1,5 @@
 -- `byte_of` meets its contract: by the form.
-use mathlib.Core.Path.{◌≡◌, ◌∙◌}
-use native.Mathlib.Omega.{arith}
+use mathlib.Core.Path.{◌∙◌}
 use Rattle.unpack.proofs.output.byte_of.Goals as goal
 
 pub sample_byte-requires : goal.sample_byte-requires

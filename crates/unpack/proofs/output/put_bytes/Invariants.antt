@@ -1,12 +1,9 @@
--- `put_bytes` meets its contract. The loop's invariant: i bytes are written, the rest are as they were.
+-- i bytes are written, the rest are as they were.
 use lib.ListN.{length}
-use mathlib.Core.Path.{◌≡◌, sym, ap, ◌∙◌}
-use native.Mathlib.Omega.{arith}
-use Prim.Native.Nat.{ℕ, ◌+◌, ◌-◌, ◌≤◌, ◌<◌}
-use Rattle.integer.proofs.Fill.{filled_none, filled_more, filled_length, filled_all}
+use mathlib.Core.Path.{◌≡◌}
+use Prim.Native.Nat.{◌+◌, ◌-◌, ◌≤◌}
 use Rattle.integer.specs.Fill.{filled}
 use Rattle.unpack.specs.Bytes.{byte_of}
-use Rattle.unpack.proofs.Sizes.{size_most}
 use Rattle.unpack.proofs.output.put_bytes.Given as goal
 
 abbrev pub invariant-loop-i : goal.invariant-loop-i

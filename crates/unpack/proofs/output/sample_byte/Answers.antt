@@ -15,13 +15,13 @@ pub returns-then-i-eq0 : goal.returns-then-i-eq0
 unfolding sample_byte
 returns-then-i-eq0 c =
     let value : ℤ = get_or c.args.plane.now (c.args.i / 2) (pos 0) in
-    let is_sample : c.sample-sample.result ≡ sample_of value = c.sample-sample.ensures ∙ ap sample_of (held w32 value c.sample-arg-1.given) in
+    let is_sample : c.sample-sample.result ≡ sample_of value = c.sample-sample.ensures ∙ ap sample_of (held w32 value (search rules)) in
     c.low_byte.ensures ∙ rw (is_sample, c.if-i-eq0.true)
 
 pub returns-else-i-eq0 : goal.returns-else-i-eq0
 unfolding sample_byte
 returns-else-i-eq0 c =
     let value : ℤ = get_or c.args.plane.now (c.args.i / 2) (pos 0) in
-    let is_sample : c.sample-sample.result ≡ sample_of value = c.sample-sample.ensures ∙ ap sample_of (held w32 value c.sample-arg-1.given) in
+    let is_sample : c.sample-sample.result ≡ sample_of value = c.sample-sample.ensures ∙ ap sample_of (held w32 value (search rules)) in
     let odd : c.args.i % 2 ≡ 1 = omega (arith, c.if-i-eq0.false) in
     c.low_byte-else-i-eq0.ensures ∙ rw (is_sample, odd, div-one)

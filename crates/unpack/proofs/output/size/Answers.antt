@@ -1,6 +1,4 @@
 -- `size` meets its contract: by the form.
-use borrow.Author.Rules.{rules}
-use mathlib.Core.Path.{◌≡◌}
 use Rattle.unpack.proofs.output.size.Goals as goal
 
 pub returns-then-picture : goal.returns-then-picture

@@ -1,10 +1,8 @@
 -- `fits` meets its contract: each test decides one part, and the first two keep the product small.
 use borrow.Author.Tests.{le-leb, lt-leb}
 use mathlib.Core.Bool.{and-false}
-use mathlib.Core.Path.{◌≡◌}
 use native.Mathlib.Nat.{mul-le-mul}
 use native.Mathlib.Omega.{arith}
-use Prim.Native.Nat.{◌*◌, ◌≤◌}
 use Rattle.integer.proofs.Tests.{both, last_decides}
 use Rattle.unpack.specs.Room.{has_room}
 use Rattle.unpack.proofs.packed.Packed.fits.Goals as goal

@@ -20,8 +20,7 @@ use Rattle.validation.proofs.Sound.{both_given}
 use Rattle.validation.proofs.ToDo.{nodes, sound_list}
 use Rattle.validation.specs.Shape.{shape}
 use Rattle.unpack.specs.Tree.{records_in}
-use Rattle.unpack.proofs.tree.records_of.Statement.{statement}
-use Rattle.unpack.proofs.tree.records_of.Tie as tie
+use Rattle.unpack.proofs.tree.records_of.Goals as goal
 
 module _ {words ring output ring' output' : List ℤ} (kept : length output' ≡ length output) where
   module _ {count : ℕ} (told : Flattens words ring output (Records count) ring' output') where
@@ -46,21 +45,6 @@ module _ {words ring output ring' output' : List ℤ} (kept : length output' ≡
   fit (Records count) told = by told (dec_lt 0 (length words))
   fit (Refused refusal) told = omega arith
 
-slice_aggregate_build_flat_tree : tie.Need-slice-aggregate-build-flat-tree
-slice_aggregate_build_flat_tree c = search rules
-
-build_flat_tree_requires : tie.Need-build-flat-tree-requires
-build_flat_tree_requires c κs = search rules
-
-same_length : tie.Need-same-length
-same_length c = search rules
-
-returns : tie.Need-returns
+pub returns : goal.returns
 returns c =
-    let called = c.before.before.build-flat-tree in
-    record { answers = called.ensures.answers; within = fit c.records.given called.result called.ensures }
-
-pub records_of_spec : {M : Type 1} → statement M
-records_of_spec =
-    tie.close
-    (tie.spec slice_aggregate_build_flat_tree build_flat_tree_requires same_length returns)
+    record { answers = c.build_flat_tree.ensures.answers; within = fit (search rules) c.build_flat_tree.result c.build_flat_tree.ensures }

@@ -1,0 +1,52 @@
+-- `unpack` meets its contract. The loop's invariant: session and lent words are what k steps lead to, and no length has changed.
+use lib.ListN.{length}
+use mathlib.Core.Path.{◌≡◌, refl, ap, ◌∙◌}
+use native.Mathlib.Omega.{arith}
+use Prim.Native.Nat.{ℕ}
+use Rattle.refusal.specs.declared.Refusal.{Refusal}
+use Rattle.unpack.specs.Steps.{Before, steps}
+use Rattle.unpack.specs.declared.channel.Stop.TheVariants as stop
+use Rattle.unpack.proofs.Turn.{next_step}
+use Rattle.unpack.proofs.channel.unpack.Goals as goal
+
+-- a refusal is not the end
+never : {refusal : Refusal} → stop.Refused refusal ≡ stop.AtEnd → ⊥
+never e = let z : ◌≡◌ {A = ℕ} 0 1 = cc in omega arith
+
+pub loop-k-init : goal.loop-k-init
+unfolding steps
+loop-k-init c = record { within = omega arith; at = refl; plane_long = refl; cells_long = refl; memory_long = refl }
+
+pub pixel-answer-requires : goal.pixel-answer-requires
+pixel-answer-requires c = omega (arith, c.loop-k-test.true, c.loop-k.invariant.plane_long, c.requires)
+
+pub returns-in-Refused : goal.returns-in-Refused
+returns-in-Refused c =
+    let inv = c.loop-k.invariant in
+    rw c.refused.ensures
+    (record {
+      within = inv.within;
+      all = λ e. absurd (never e);
+      plane_is = c.pixel-answer.ensures.stays c.in-Refused.kept c.in-Refused.is ∙ ap (λ (b : Before). b.plane) inv.at;
+    })
+
+pub loop-k-preserved : goal.loop-k-preserved
+loop-k-preserved c =
+    let opened : Before = record { session = c.args.opened; plane = c.args.plane.now; cells = c.args.cells.now; memory = c.args.memory.now } in
+    let plane_kept : length c.pixel-answer.new.plane ≡ length c.args.plane.now = omega (arith, c.loop-k.invariant.plane_long) in
+    let cells_kept : length c.pixel-answer.new.cells ≡ length c.args.cells.now = omega (arith, c.loop-k.invariant.cells_long) in
+    let memory_kept : length c.pixel-answer.new.memory ≡ length c.args.memory.now = omega (arith, c.loop-k.invariant.memory_long) in
+    record {
+      within = omega (arith, c.loop-k-test.true);
+      at =
+          next_step c.args.records.now c.loop-k.k opened c.loop-k.invariant.at
+          (c.pixel-answer.ensures.goes_on c.in-Done.next c.in-Done.is);
+      plane_long = plane_kept;
+      cells_long = cells_kept;
+      memory_long = memory_kept;
+    }
+
+pub returns : goal.returns
+returns c =
+    let inv = c.loop-k.invariant in
+    record { within = inv.within; all = λ e. omega (arith, inv.within); plane_is = ap (λ (b : Before). b.plane) inv.at }
