@@ -2,8 +2,8 @@
 // header (p1c p2c p3ca p3cb p3cc p3cd p3ce w0 w1 w2 w3), weights on or off (1 or 0), channel and stream (cells 0 and 1), the
 // number of nodes, five words a node, and a residual a pixel, row by row. No pixel has references. Standard output is the plane
 // as such words or, with the argument `pgm`, as a picture of 16 bits (output.rt).
-// What is wrong is told in words on standard error, which is empty where nothing is. A Rattle program has no exit status, so nothing
-// is made up to look whole either: finished rows are written and no others, and a picture that lacks rows is shorter than its first
+// What is wrong is told in words on standard error, which is empty where nothing is. The exit status is always 0, so nothing is
+// made up to look whole either: finished rows are written and no others, and a picture that lacks rows is shorter than its first
 // lines promise, so that whoever opens it is told too.
 #![tactic(auto)]
 
