@@ -1,4 +1,5 @@
-// What the oracle calls from Rust (../../oracle): the weighted state behind C functions. No part of what a board links.
+// The weighted state over plain lists, as the oracle calls it from Rust (../../oracle): lab_weighted_c exports the five functions
+// below. No part of what a board links.
 // A state is told as three lists: its header (eleven values in the struct's order), its place (width, x, y, and whether an
 // ask waits for its put: 0 no, else yes), and the five values that an ask found. An answer of 0 says done, another is a
 // refusal's number, 8 first where a list is too short; a refusal writes nothing.
@@ -167,8 +168,7 @@ fn put_answer(given: Answer, answer: &mut [i64])
 }
 
 // Clears the memory of a state before the first pixel of a picture of this width.
-#[unsafe(no_mangle)]
-pub extern "C" fn matuviso_weighted_open(header: &[u32], width: usize, memory: &mut [u32]) -> u32
+pub fn matuviso_weighted_open(header: &[u32], width: usize, memory: &mut [u32]) -> u32
     ensures { OpenTold header.now width memory.old result memory.new }
 {
     if header.len() < 11 {
@@ -182,8 +182,7 @@ pub extern "C" fn matuviso_weighted_open(header: &[u32], width: usize, memory: &
 }
 
 // The guess and the property of the pixel at the place, whose neighbours are the seven of `data`.
-#[unsafe(no_mangle)]
-pub extern "C" fn matuviso_weighted_ask(
+pub fn matuviso_weighted_ask(
     header: &[u32],
     place: &mut [u64],
     found: &mut [i64],
@@ -220,8 +219,7 @@ pub extern "C" fn matuviso_weighted_ask(
 }
 
 // The true value of the pixel that was asked for.
-#[unsafe(no_mangle)]
-pub extern "C" fn matuviso_weighted_put(
+pub fn matuviso_weighted_put(
     header: &[u32],
     place: &mut [u64],
     found: &[i64],
@@ -257,8 +255,7 @@ fn status(copied: Copied) -> u32
 }
 
 // Copies the first half of the memory into the list.
-#[unsafe(no_mangle)]
-pub extern "C" fn matuviso_save_state(
+pub fn matuviso_save_state(
     header: &[u32],
     place: &[u64],
     found: &[i64],
@@ -275,8 +272,7 @@ pub extern "C" fn matuviso_save_state(
 }
 
 // Writes the list back into the first half of the memory.
-#[unsafe(no_mangle)]
-pub extern "C" fn matuviso_restore_state(
+pub fn matuviso_restore_state(
     header: &[u32],
     place: &[u64],
     found: &[i64],
