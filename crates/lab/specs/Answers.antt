@@ -1,5 +1,5 @@
 -- What the C functions answer and write, from the library's own definitions: 0 and the words, or a refusal's number and nothing.
-use Rattle.std.specs.Prelude.{Bool, true, false, List, [], ◌∷◌, ◌≡◌, ℕ, ltb, ℤ, pos, neg_ℤ, length, get_or, drop}
+use Rattle.std.specs.Prelude.{Bool, List, [], ◌∷◌, ◌≡◌, ℕ, ltb, ℤ, pos, neg_ℤ, length, get_or, drop}
 use Rattle.colour.specs.Restore.{outcome, after, first, second, third}
 use Rattle.integer.specs.Order.{if}
 use Rattle.refusal.specs.Paper.{Outcome, gives, refuses, one_value}
