@@ -1,0 +1,20 @@
+-- `matuviso_save_state` meets its promise: the library's answer for the state that the lists tell, as a number.
+use Rattle.lab_weighted.proofs.Outcomes.{Lists, lists, untold, save_untold, save_told}
+use Rattle.lab_weighted.proofs.matuviso_save_state.Goals as goal
+
+pub returns-then-not-tell : goal.returns-then-not-tell
+returns-then-not-tell c =
+    let s = c.args in
+    save_untold (untold s.header.now s.place.now s.found.now c.tell.ensures c.if-not-tell.true-raw)
+
+pub state_of-state-requires : goal.state_of-state-requires
+state_of-state-requires c =
+    -- past the first test the lists tell a state
+    let long : Lists c.args.header.now c.args.place.now c.args.found.now = lists c.args.header.now c.args.place.now c.args.found.now c.tell.ensures c.if-not-tell.false-raw in
+    long.lengths
+
+pub returns : goal.returns
+returns c =
+    -- past the first test the lists tell a state
+    let long : Lists c.args.header.now c.args.place.now c.args.found.now = lists c.args.header.now c.args.place.now c.args.found.now c.tell.ensures c.if-not-tell.false-raw in
+    save_told long c.state_of-state.ensures c.save_state.ensures c.status.ensures
