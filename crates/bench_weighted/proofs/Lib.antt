@@ -1,2 +1,3 @@
 mod Opening
 mod Turn
+pub mod WeighAllLoop
