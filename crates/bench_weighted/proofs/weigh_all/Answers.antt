@@ -57,23 +57,6 @@ loop-k-init c =
       answers_long = refl;
     }
 
-pub neighbours_of-requires : goal.neighbours_of-requires
-neighbours_of-requires c = omega (arith, c.loop-k-test.true)
-
-pub tell-requires : goal.tell-requires
-tell-requires c =
-    let first : WeightedState = c.args.opened in
-    let k : ℕ = c.loop-k.k in
-    let reached : Reached c.args.«data».now c.args.plane.now c.args.memory.now c.args.answers.now first c.loop-k.memory c.loop-k.answers c.loop-k.state k = c.loop-k.invariant in
-    omega (arith, c.loop-k-test.true, reached.answers_long, c.requires.1)
-
-pub offset_bounds-plane-k : goal.offset_bounds-plane-k
-offset_bounds-plane-k c =
-    omega (arith, c.loop-k-test.true, c.well_formed)
-
-pub bounds-plane-k : goal.bounds-plane-k
-bounds-plane-k c = omega (arith, c.loop-k-test.true)
-
 pub shape_of-memory-in-Refused-put : goal.shape_of-memory-in-Refused-put
 shape_of-memory-in-Refused-put c =
     let first : WeightedState = c.args.opened in
@@ -87,46 +70,6 @@ shape_of-answers-in-Refused-put c =
     let k : ℕ = c.loop-k.k in
     let reached : Reached c.args.«data».now c.args.plane.now c.args.memory.now c.args.answers.now first c.loop-k.memory c.loop-k.answers c.loop-k.state k = c.loop-k.invariant in
     omega (arith, reached.answers_long)
-
-pub shape_of-memory-in-Refused : goal.shape_of-memory-in-Refused
-shape_of-memory-in-Refused c =
-    let first : WeightedState = c.args.opened in
-    let k : ℕ = c.loop-k.k in
-    let reached : Reached c.args.«data».now c.args.plane.now c.args.memory.now c.args.answers.now first c.loop-k.memory c.loop-k.answers c.loop-k.state k = c.loop-k.invariant in
-    reached.memory_long
-
-pub shape_of-answers-in-Refused : goal.shape_of-answers-in-Refused
-shape_of-answers-in-Refused c =
-    let first : WeightedState = c.args.opened in
-    let k : ℕ = c.loop-k.k in
-    let reached : Reached c.args.«data».now c.args.plane.now c.args.memory.now c.args.answers.now first c.loop-k.memory c.loop-k.answers c.loop-k.state k = c.loop-k.invariant in
-    reached.answers_long
-
-pub overflow_add-k : goal.overflow_add-k
-overflow_add-k c =
-    omega (arith, c.loop-k-test.true, c.well_formed)
-
-pub loop-k-smaller : goal.loop-k-smaller
-loop-k-smaller c = omega (arith, c.loop-k-test.true)
-
-pub shape_of-memory : goal.shape_of-memory
-shape_of-memory c = c.loop-k.invariant.memory_long
-
-pub shape_of-answers : goal.shape_of-answers
-shape_of-answers c = c.loop-k.invariant.answers_long
-
-pub returns : goal.returns
-returns c =
-    let first : WeightedState = c.args.opened in
-    let near : ℕ → PredictionData = neighbours_of c.args.«data».now in
-    let true_value : ℕ → ℤ = value_of c.args.plane.now in
-    let at : ℕ → Before = λ j. calls first.header first.width c.args.memory.now near true_value j in
-    let all : c.loop-k.k ≡ length c.args.plane.now = omega (arith, c.loop-k.invariant.within) in
-    record {
-      answers = refl;
-      holds_memory = rw all at c.loop-k.invariant.memory_is;
-      holds_answers = rw all at c.loop-k.invariant.answers_are;
-    }
 
 pub returns-in-Refused-put : goal.returns-in-Refused-put
 returns-in-Refused-put c =

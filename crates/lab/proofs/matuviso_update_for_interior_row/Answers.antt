@@ -1,5 +1,5 @@
 -- `matuviso_update_for_interior_row` meets its promise: the library's answer for the seven words, put into seven words.
-use borrow.Author.Tests.{lt-ltb, le-ltb}
+use borrow.Author.Tests.{le-ltb}
 use lib.IntN.{ℤ}
 use mathlib.Core.List.{List}
 use mathlib.Core.Path.{◌≡◌, sym, ap, ◌∙◌}
@@ -10,9 +10,6 @@ use Rattle.predict.specs.declared.neighbours.PredictionData.{PredictionData}
 use Rattle.refusal.specs.Paper.{Outcome}
 use Rattle.lab.specs.Answers.{seven_status, seven_after, shifted}
 use Rattle.lab.proofs.matuviso_update_for_interior_row.Goals as goal
-
-pub returns-then-data-lt7 : goal.returns-then-data-lt7
-returns-then-data-lt7 c = record { answers = simp (lt-ltb _ _ c.if-data-lt7.true); holds = simp (lt-ltb _ _ c.if-data-lt7.true) }
 
 pub returns-in-Is : goal.returns-in-Is
 returns-in-Is c =
