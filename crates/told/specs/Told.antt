@@ -1,6 +1,6 @@
 -- What a C function answers and writes of an outcome: 0, or a refusal's number with its details as the first words of the list `told`.
 -- A list that is too short is 8, before all else, and nothing is told.
-use Rattle.std.specs.Prelude.{Bool, List, [], ◌∷◌, ◌++◌, ◌≡◌, ℕ, leb, ℤ, pos, length, get_or, drop}
+use Rattle.std.specs.Prelude.{Bool, List, [], ◌++◌, ◌≡◌, ℕ, leb, ℤ, pos, length, get_or, drop}
 use Rattle.integer.specs.Order.{if}
 use Rattle.predict.specs.declared.neighbours.PredictionData.{PredictionData}
 use Rattle.refusal.specs.Paper.{Outcome, gives, refuses, details_of, one_value}
