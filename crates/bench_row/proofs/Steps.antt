@@ -1,11 +1,11 @@
 -- One row of a channel: the channel goes on from what the row leaves, or ends at its refusal.
 use lib.IntN.{ℤ}
 use mathlib.Core.List.{List}
-use mathlib.Core.Path.{◌≡◌, ap, sym, ◌∙◌}
+use mathlib.Core.Path.{◌≡◌, ap, sym}
 use native.Mathlib.Omega.{arith}
 use Prim.Native.Nat.{ℕ, suc, ◌+◌, ◌-◌, ◌<◌}
 use Rattle.refusal.specs.Paper.{number_of}
-use Rattle.row.specs.Row.{Leaves, Row, said, unpacks}
+use Rattle.row.specs.Row.{Leaves, said, unpacks}
 use Rattle.row.specs.declared.Halted.{Halted}
 use Rattle.row.specs.declared.RowAnswer.{RowAnswer}
 use Rattle.row.specs.declared.RowAnswer.TheVariants as row

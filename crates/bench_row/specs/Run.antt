@@ -3,7 +3,7 @@ use Rattle.std.specs.Prelude.{Bool, ◌&&◌, List, ◌++◌, ◌≡◌, ℕ, ze
 use Rattle.integer.specs.Order.{if}
 use Rattle.lab_weighted.specs.Told.{header_of}
 use Rattle.refusal.specs.Paper.{Outcome, gives, refuses, one_value}
-use Rattle.row.specs.Row.{Ended, all, halted, Row, unpacks}
+use Rattle.row.specs.Row.{Ended, all, halted, unpacks}
 use Rattle.session.specs.Session.{opens}
 use Rattle.session.specs.declared.Session.{Session}
 

@@ -1,0 +1,47 @@
+-- `matuviso_session_ask` meets its promise: the library's answer for the session that the lists tell, told, and the session after it.
+use lib.ListN.{length}
+use mathlib.Core.Path.{ap, sym, ◌∙◌}
+use Rattle.refusal.specs.Paper.{gives}
+use Rattle.told.proofs.Telling.{short, told_of}
+use Rattle.lab_session.proofs.Lists.{Longs, longs, unwritten, written}
+use Rattle.lab_session.proofs.matuviso_session_ask.Goals as goal
+
+pub returns-then-not-tell_session : goal.returns-then-not-tell_session
+returns-then-not-tell_session c =
+    let few = sym c.tell_session.ensures ∙ c.if-not-tell_session.true in
+    record { tells = short few; writes = unwritten _ few; holds_cells = simp few }
+
+pub session_of-session-requires : goal.session_of-session-requires
+session_of-session-requires c =
+    -- past the test the lists are long enough
+    let long : let s = c.args in Longs (length s.header.now) (length s.place.now) (length s.found.now) (length s.settings.now) (length s.told.now) =
+    let s = c.args in
+    longs (length s.header.now) (length s.place.now) (length s.found.now) (length s.settings.now) (length s.told.now)
+    c.tell_session.ensures c.if-not-tell_session.false-raw in
+    let l = long in
+    (l.place_long, l.found_long, l.settings_long)
+
+pub tell_asked-requires : goal.tell_asked-requires
+tell_asked-requires c =
+    -- past the test the lists are long enough
+    let long : let s = c.args in Longs (length s.header.now) (length s.place.now) (length s.found.now) (length s.settings.now) (length s.told.now) =
+    let s = c.args in
+    longs (length s.header.now) (length s.place.now) (length s.found.now) (length s.settings.now) (length s.told.now)
+    c.tell_session.ensures c.if-not-tell_session.false-raw in
+    let l = long in
+    (l.found_long, l.settings_long, l.told_long)
+
+pub returns : goal.returns
+returns c =
+    -- past the test the lists are long enough
+    let long : let s = c.args in Longs (length s.header.now) (length s.place.now) (length s.found.now) (length s.settings.now) (length s.told.now) =
+    let s = c.args in
+    longs (length s.header.now) (length s.place.now) (length s.found.now) (length s.settings.now) (length s.told.now)
+    c.tell_session.ensures c.if-not-tell_session.false-raw in
+    let l = long in
+    let is = rw c.session_of-session.ensures at c.ask-asked.ensures in
+    record {
+      tells = told_of l.tells is.answers c.tell_asked.ensures.tells;
+      writes = written l.tells (ap gives is.session_is) c.tell_asked.ensures.written;
+      holds_cells = simp l.tells is.cells_are;
+    }
