@@ -71,7 +71,7 @@ weighed_sound =
     record {
       arguments =
           record {
-            in_range_lem = refl;
+            header_in_range = refl;
             wide = refl;
             whole = refl;
             few_rows = omega arith;

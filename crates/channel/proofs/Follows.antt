@@ -68,7 +68,7 @@ module _ (t : Told) (records plane cells : List ℤ) (memory : List ℕ) (rows :
         memory = if t.weights zeros memory;
       }
   unfolding opens
-  opening = simp (sound.arguments.in_range_lem, sound.arguments.wide, sound.arguments.lent, le-leb 16 (length cells) sound.arguments.sixteen)
+  opening = simp (sound.arguments.header_in_range, sound.arguments.wide, sound.arguments.lent, le-leb 16 (length cells) sound.arguments.sixteen)
 
   first : Meets 0 (scan t plane cells memory 0) (calls t records plane cells memory 0)
   unfolding scan calls

@@ -132,7 +132,7 @@ module _ (c : Given) where
 
         by : (t : Bool) → if t (possible (if t (predicted_at s.weighted b.memory d) silent).found) true ≡ true
         by true =
-            possible_found s.weighted.header d (errors_read b.memory (width s) (column s) (line s)) (sums_read b.memory (width s) (column s) (line s)) granted.in_range_lem
+            possible_found s.weighted.header d (errors_read b.memory (width s) (column s) (line s)) (sums_read b.memory (width s) (column s) (line s)) granted.header_in_range
             (neighbour_words (colour.row_of b.plane (width s) (line s)) _ _ (column s) same_row (above 1) (above 2))
             (errors_read_small b.memory (width s) (column s) (line s))
         by false = refl
@@ -157,7 +157,7 @@ module _ (c : Given) where
       put_passes : puts asked (get_or c.residuals k (pos 0)) b.plane b.memory
           ≡ record { says = gives tt; session = on.session; plane = on.plane; memory = on.memory }
       unfolding puts
-      put_passes = simp (granted.in_range_lem, granted.is_pixel_lem, could, granted.memory)
+      put_passes = simp (granted.header_in_range, granted.is_pixel_lem, could, granted.memory)
 
       pub goes_on : (n : ℕ) → walk ≡ gives r → pixels (suc n) k b ≡ pixels n (k + 1) on
       unfolding pixels_from
@@ -195,7 +195,7 @@ module _ (c : Given) where
             cells_long,
             memory_long,
             ne_eqb (column s + 1) (width s) (λ e. omega arith),
-            granted.in_range_lem,
+            granted.header_in_range,
             granted.placed.there,
             lt-ltb (column s + 1) (width s) more,
             le-leb (cells_needed s.mask c.each) 4294967295 granted.sayable,

@@ -152,7 +152,7 @@ module _
       may_unpack_lem =
           ap may here.is
           ∙ simp (
-            sound.arguments.in_range_lem,
+            sound.arguments.header_in_range,
             is_pixel_lem t records plane cells memory rows sound first start (length (scan t plane cells memory first).plane) here.kept.long,
             tabulate_length (λ i. t.residual (first + i)) t.width,
             lent,

@@ -120,7 +120,7 @@ module _ (t : Told) (records plane cells : List ℤ) (memory : List ℕ) (rows :
 
           by : (w : Bool) → if w (possible (if w weighed silent).found) true ≡ true
           by true =
-              possible_found t.header (seven t s k) (true_errors t.width s.past x y) (err_sums t.width s.past x y) sound.arguments.in_range_lem
+              possible_found t.header (seven t s k) (true_errors t.width s.past x y) (err_sums t.width s.past x y) sound.arguments.header_in_range
               (neighbour_words (row_up t s k 0) (row_up t s k 1) (row_up t s k 2) x (row 0) (row 1) (row 2))
               (errors_small t.width s.past x y kept.errors)
           by false = refl
@@ -134,7 +134,7 @@ module _ (t : Told) (records plane cells : List ℤ) (memory : List ℕ) (rows :
             let needs = cells_needed t.mask (length (t.references k)) in
             let some = ne_eqb sound.count 0 (λ e. omega (arith, sound.some)) in
             let enough = le-leb needs (length s.cells) (omega (arith, sound.arguments.fits k, kept.roomy)) in
-            simp (sound.arguments.in_range_lem, is_pixel_lem (length s.plane) kept.long, sayable, sound.counts, some, lent, enough)
+            simp (sound.arguments.header_in_range, is_pixel_lem (length s.plane) kept.long, sayable, sound.counts, some, lent, enough)
 
         -- the pixel's own row is always there
         same_rows : rows_of here s.plane ≡ seven t s k
@@ -188,7 +188,7 @@ module _ (t : Told) (records plane cells : List ℤ) (memory : List ℕ) (rows :
               }
 
           may_put_lem : may_put asked (length s.plane) (length s.memory) ≡ gives tt
-          may_put_lem = simp (sound.arguments.in_range_lem, is_pixel_lem (length s.plane) kept.long, could, lent)
+          may_put_lem = simp (sound.arguments.header_in_range, is_pixel_lem (length s.plane) kept.long, could, lent)
 
           pub put_done : puts asked (t.residual k) s.plane s.memory
               ≡ left (suc k % t.width) (suc k / t.width) k
@@ -211,10 +211,10 @@ module _ (t : Told) (records plane cells : List ℤ) (memory : List ℕ) (rows :
           → asks closed_here s.plane references records s.cells s.memory
           ≡ record { says = refuses 13 (pos 0 ∷ []); session = closed_here; cells = s.cells }
       unfolding asks
-      ask_closed s references long sayable = simp (sound.arguments.in_range_lem, is_pixel_lem (length s.plane) long, sayable)
+      ask_closed s references long sayable = simp (sound.arguments.header_in_range, is_pixel_lem (length s.plane) long, sayable)
 
       pub put_closed : (s : Scan) (residual : ℤ) → length s.plane ≡ length plane
           → puts closed_here residual s.plane s.memory
           ≡ record { says = refuses 13 (pos 0 ∷ []); session = closed_here; plane = s.plane; memory = s.memory }
       unfolding puts
-      put_closed s residual long = simp (sound.arguments.in_range_lem, is_pixel_lem (length s.plane) long)
+      put_closed s residual long = simp (sound.arguments.header_in_range, is_pixel_lem (length s.plane) long)

@@ -34,7 +34,7 @@ module _ (t : Told) (records plane cells : List ℤ) (memory : List ℕ) where
 
   -- arguments without fault: the plane is `rows` whole rows of 32-bit words, and every reference row fits the cells
   pub record Arguments (rows : ℕ) : Type 0 where
-    pub in_range_lem : in_range t.header ≡ true
+    pub header_in_range : in_range t.header ≡ true
     pub wide : is_width t.width ≡ true
     pub whole : length plane ≡ rows * t.width
     pub few_rows : rows ≤ 2 ^ 30

@@ -69,7 +69,7 @@ then_passed (gives tt) next e = (refl, e)
 then_passed (refuses number details) next e = absurd (let z : ◌≡◌ {A = ℕ} 0 1 = cc in omega arith)
 
 pub record AskGranted (s : Session) (size references : ℕ) (cells lent : ℕ) : Type 0 where
-  pub in_range_lem : in_range s.weighted.header ≡ true
+  pub header_in_range : in_range s.weighted.header ≡ true
   pub is_pixel_lem : is_pixel s size ≡ true
   pub placed : Pixel s size
   pub sayable : cells_needed s.mask references ≤ 4294967295
@@ -88,7 +88,7 @@ ask_granted s size references records cells lent e =
     let memory = test_passed (is_lent s.weights (width s) lent) 8 (needed (width s)) _ some.1 in
     let room = test_passed (leb need cells) 10 need _ memory.1 in
     record {
-      in_range_lem = header.0;
+      header_in_range = header.0;
       is_pixel_lem = and_left (is_pixel s size) (leb need 4294967295) place.0;
       placed = pixel s size (and_left (is_pixel s size) (leb need 4294967295) place.0);
       sayable = leb-true need 4294967295 (and_right (is_pixel s size) (leb need 4294967295) place.0);
@@ -168,13 +168,13 @@ pub answers : (s : Session) (size references : ℕ) (cells : ℕ) (m : List ℕ)
 answers s size references cells m d g = by s.weights g.memory
   where
     by : (t : Bool) → is_lent t (width s) (length m) ≡ true → answers_of t s.weighted m d ≡ gives (answered s.weighted (if t (predicted_at s.weighted m d) silent))
-    by true enough = may s.weighted (not s.weighted.asked) (length m) _ g.in_range_lem (place s g.placed) g.turn (leb-true (needed (width s)) (length m) enough)
+    by true enough = may s.weighted (not s.weighted.asked) (length m) _ g.header_in_range (place s g.placed) g.turn (leb-true (needed (width s)) (length m) enough)
     by false enough = refl
 
 -- ---- the tests of a put
 
 pub record PutGranted (s : Session) (size lent : ℕ) : Type 0 where
-  pub in_range_lem : in_range s.weighted.header ≡ true
+  pub header_in_range : in_range s.weighted.header ≡ true
   pub placed : Pixel s size
   pub due : is_due s ≡ true
   pub memory : is_lent s.weights (width s) lent ≡ true
@@ -185,7 +185,7 @@ put_granted s size lent e =
     let place = test_passed (is_pixel s size) 11 0 _ header.1 in
     let due = test_passed (is_due s) 13 0 _ place.1 in
     let memory = test_passed (is_lent s.weights (width s) lent) 8 (needed (width s)) _ due.1 in
-    record { in_range_lem = header.0; placed = pixel s size place.0; due = due.0; memory = memory.0 }
+    record { header_in_range = header.0; placed = pixel s size place.0; due = due.0; memory = memory.0 }
 
 module _ (s : Session) (size : ℕ) (m : List ℕ) (g : PutGranted s size (length m)) where
   pub learns_on_lem : learns s.weights s.weighted m ≡ gives (onward s.weighted)
@@ -193,7 +193,7 @@ module _ (s : Session) (size : ℕ) (m : List ℕ) (g : PutGranted s size (lengt
     where
       by : (t : Bool) → is_lent t (width s) (length m) ≡ true → (s.weighted.asked && if t (possible s.weighted.found) true) ≡ true
           → learns t s.weighted m ≡ gives (onward s.weighted)
-      by true enough due = may s.weighted (s.weighted.asked && possible s.weighted.found) (length m) _ g.in_range_lem (place s g.placed) due (leb-true (needed (width s)) (length m) enough)
+      by true enough due = may s.weighted (s.weighted.asked && possible s.weighted.found) (length m) _ g.header_in_range (place s g.placed) due (leb-true (needed (width s)) (length m) enough)
       by false enough due = rw (place s g.placed)
 
   pub learns_so : (v : ℤ) → learns_on s.weights s.weighted m v ≡ learnt s m v
@@ -203,7 +203,7 @@ module _ (s : Session) (size : ℕ) (m : List ℕ) (g : PutGranted s size (lengt
           → learns_on t s.weighted m v ≡ learnt (record { weighted = s.weighted; weights = t; mask = s.mask; live = s.live; guess = s.guess; multiplier = s.multiplier }) m v
       by true enough due =
           let on : puts s.weighted m ≡ gives (onward s.weighted) =
-          may s.weighted (s.weighted.asked && possible s.weighted.found) (length m) _ g.in_range_lem (place s g.placed) due (leb-true (needed (width s)) (length m) enough)
+          may s.weighted (s.weighted.asked && possible s.weighted.found) (length m) _ g.header_in_range (place s g.placed) due (leb-true (needed (width s)) (length m) enough)
           in
           rw on
       by false enough due = refl
@@ -211,7 +211,7 @@ module _ (s : Session) (size : ℕ) (m : List ℕ) (g : PutGranted s size (lengt
 -- ---- the tests of an opening
 
 pub record OpenGranted (h : WeightedHeader) (w : ℕ) (weights : Bool) (cells lent : ℕ) : Type 0 where
-  pub in_range_lem : in_range h ≡ true
+  pub header_in_range : in_range h ≡ true
   pub wide : is_width w ≡ true
   pub memory : is_lent weights w lent ≡ true
   pub sixteen : 16 ≤ cells
@@ -222,12 +222,12 @@ open_granted h w weights cells lent e =
     let wide = test_passed (is_width w) 11 0 _ header.1 in
     let memory = test_passed (is_lent weights w lent) 8 (needed w) _ wide.1 in
     let sixteen = test_passed (leb 16 cells) 10 16 _ memory.1 in
-    record { in_range_lem = header.0; wide = wide.0; memory = memory.0; sixteen = leb-true 16 cells sixteen.0 }
+    record { header_in_range = header.0; wide = wide.0; memory = memory.0; sixteen = leb-true 16 cells sixteen.0 }
 
 pub starts_so : (h : WeightedHeader) (w : ℕ) (weights : Bool) (cells : ℕ) (m : List ℕ) → OpenGranted h w weights cells (length m)
     → (starts weights h w m ≡ gives (at_start h w)) × (starts_on weights h w m ≡ if weights (filled (λ k. 0) (needed w) m) m)
 starts_so h w weights cells m g = by weights g.memory
   where
     by : (t : Bool) → is_lent t w (length m) ≡ true → (starts t h w m ≡ gives (at_start h w)) × (starts_on t h w m ≡ if t (filled (λ k. 0) (needed w) m) m)
-    by true enough = (rw (g.in_range_lem, g.wide, enough), rw (g.in_range_lem, g.wide, enough))
+    by true enough = (rw (g.header_in_range, g.wide, enough), rw (g.header_in_range, g.wide, enough))
     by false enough = (refl, refl)

@@ -48,7 +48,7 @@ test_passed false n d next e = absurd (let z : ◌≡◌ {A = ℕ} 0 1 = cc in o
 
 -- past all tests
 pub record Granted (s : WeightedState) (turn : Bool) (lent : ℕ) : Type 0 where
-  pub in_range_lem : in_range s.header ≡ true
+  pub header_in_range : in_range s.header ≡ true
   pub placed : is_place s ≡ true
   pub narrow : s.width ≤ 65536
   pub inside : s.x < s.width
@@ -89,7 +89,7 @@ module _ (s : WeightedState) (turn : Bool) (lent : ℕ) where
       let memory = test_passed _ _ _ _ its_turn.1 in
       let stands = place_is s place.0 in
       record {
-        in_range_lem = header.0;
+        header_in_range = header.0;
         placed = place.0;
         narrow = stands.0;
         inside = stands.1;

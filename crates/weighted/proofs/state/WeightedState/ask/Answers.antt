@@ -45,7 +45,7 @@ returns-in-Is c =
     c.predict_and_property-predicted.ensures ∙ ap₂ (λ (e : TrueErrors) (sums : Four). prediction c.args.self.header c.args.«data» e sums) c.errors_around-errors.ensures c.sums_around-sums.ensures in
     let m = c.args.memory.now in
     let is =
-    prediction_is c.args.self.header c.args.«data» (errors_read m c.args.self.width c.args.self.x c.args.self.y) (sums_read m c.args.self.width c.args.self.x c.args.self.y) may.in_range_lem
+    prediction_is c.args.self.header c.args.«data» (errors_read m c.args.self.width c.args.self.x c.args.self.y) (sums_read m c.args.self.width c.args.self.x c.args.self.y) may.header_in_range
     (sym (ap said c.in-Is.is) ∙ predicted) in
     ask_answered c.args.self m c.args.«data» c.answer.result passed (c.answer.ensures ∙ ap (answered c.args.self) is)
 
@@ -60,5 +60,5 @@ returns-in-Refused-predicted c =
     c.predict_and_property-predicted.ensures ∙ ap₂ (λ (e : TrueErrors) (sums : Four). prediction c.args.self.header c.args.«data» e sums) c.errors_around-errors.ensures c.sums_around-sums.ensures in
     let m = c.args.memory.now in
     absurd
-    (predicts c.args.self.header c.args.«data» (errors_read m c.args.self.width c.args.self.x c.args.self.y) (sums_read m c.args.self.width c.args.self.x c.args.self.y) may.in_range_lem
+    (predicts c.args.self.header c.args.«data» (errors_read m c.args.self.width c.args.self.x c.args.self.y) (sums_read m c.args.self.width c.args.self.x c.args.self.y) may.header_in_range
     (sym (ap said c.in-Refused-predicted.is) ∙ predicted))

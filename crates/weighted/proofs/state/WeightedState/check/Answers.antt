@@ -13,26 +13,26 @@ returns-then-not-in_range c = simp (sym c.in_range.ensures ∙ c.if-not-in_range
 pub returns-then-not-is_place : goal.returns-then-not-is_place
 unfolding allowed
 returns-then-not-is_place c =
-    let in_range_lem : in_range c.args.self.header ≡ true = sym c.in_range.ensures ∙ c.if-not-in_range.false in
-    simp (in_range_lem, sym c.is_place.ensures ∙ c.if-not-is_place.true)
+    let header_in_range : in_range c.args.self.header ≡ true = sym c.in_range.ensures ∙ c.if-not-in_range.false in
+    simp (header_in_range, sym c.is_place.ensures ∙ c.if-not-is_place.true)
 
 pub returns-then-not-turn : goal.returns-then-not-turn
 unfolding allowed
 returns-then-not-turn c =
-    let in_range_lem : in_range c.args.self.header ≡ true = sym c.in_range.ensures ∙ c.if-not-in_range.false in
+    let header_in_range : in_range c.args.self.header ≡ true = sym c.in_range.ensures ∙ c.if-not-in_range.false in
     let is_place_lem : is_place c.args.self ≡ true = sym c.is_place.ensures ∙ c.if-not-is_place.false in
-    simp (in_range_lem, is_place_lem, c.if-not-turn.true)
+    simp (header_in_range, is_place_lem, c.if-not-turn.true)
 
 pub returns-then-lent-needed : goal.returns-then-lent-needed
 unfolding allowed
 returns-then-lent-needed c =
-    let in_range_lem : in_range c.args.self.header ≡ true = sym c.in_range.ensures ∙ c.if-not-in_range.false in
+    let header_in_range : in_range c.args.self.header ≡ true = sym c.in_range.ensures ∙ c.if-not-in_range.false in
     let is_place_lem : is_place c.args.self ≡ true = sym c.is_place.ensures ∙ c.if-not-is_place.false in
-    simp (in_range_lem, is_place_lem, c.if-not-turn.false, lt-leb _ _ c.if-lent-needed.true)
+    simp (header_in_range, is_place_lem, c.if-not-turn.false, lt-leb _ _ c.if-lent-needed.true)
 
 pub returns : goal.returns
 unfolding allowed
 returns c =
-    let in_range_lem : in_range c.args.self.header ≡ true = sym c.in_range.ensures ∙ c.if-not-in_range.false in
+    let header_in_range : in_range c.args.self.header ≡ true = sym c.in_range.ensures ∙ c.if-not-in_range.false in
     let is_place_lem : is_place c.args.self ≡ true = sym c.is_place.ensures ∙ c.if-not-is_place.false in
-    simp (in_range_lem, is_place_lem, c.if-not-turn.false, le-leb _ _ c.if-lent-needed.false)
+    simp (header_in_range, is_place_lem, c.if-not-turn.false, le-leb _ _ c.if-lent-needed.false)
