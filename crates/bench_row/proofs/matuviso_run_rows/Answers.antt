@@ -32,7 +32,9 @@ returns-then-contexts-residuals c = record { is = simp (le-leb _ _ c.if-header-l
 pub nonzero_div-rows : goal.nonzero_div-rows
 unfolding opens
 nonzero_div-rows c =
+    -- what opening said, past the tests of the lists
     let opens_it : let s = c.args in Opens s.width (header_of s.header.now) s.weights s.mask s.number s.stream s.cells.now s.memory.now c.open-opened.result c.open-opened.new.cells c.open-opened.new.memory = rw (c.header_of-known.ensures, to_z-of_z c.ranges.number, to_z-of_z c.ranges.stream) at c.open-opened.ensures in
+    -- the session that was opened
     let says : let s = c.args in (opens s.width (header_of s.header.now) s.weights s.mask s.number s.stream s.cells.now s.memory.now).says ≡ gives c.in-Is.session = sym opens_it.answers ∙ ap said_opened c.in-Is.is in
     let some : 1 ≤ c.args.width =
     let s = c.args in
@@ -49,7 +51,19 @@ pub returns-in-Is : goal.returns-in-Is
 returns-in-Is c =
     let header_there : leb 11 (length c.args.header.now) ≡ true = le-leb _ _ c.if-header-lt11.false in
     let contexts_there : leb (length c.args.residuals.now) (length c.args.contexts.now) ≡ true = le-leb _ _ c.if-contexts-residuals.false in
+    -- what opening said, past the tests of the lists
     let opens_it : let s = c.args in Opens s.width (header_of s.header.now) s.weights s.mask s.number s.stream s.cells.now s.memory.now c.open-opened.result c.open-opened.new.cells c.open-opened.new.memory = rw (c.header_of-known.ensures, to_z-of_z c.ranges.number, to_z-of_z c.ranges.stream) at c.open-opened.ensures in
+    -- the session that was opened
     let says : let s = c.args in (opens s.width (header_of s.header.now) s.weights s.mask s.number s.stream s.cells.now s.memory.now).says ≡ gives c.in-Is.session = sym opens_it.answers ∙ ap said_opened c.in-Is.is in
     let is = opens_it in
     record { is = rw (header_there, contexts_there, says, sym is.cells_are, sym is.memory_is) c.run.ensures.is }
+
+pub returns-in-Refused : goal.returns-in-Refused
+returns-in-Refused c =
+    let header_there : leb 11 (length c.args.header.now) ≡ true = le-leb _ _ c.if-header-lt11.false in
+    let contexts_there : leb (length c.args.residuals.now) (length c.args.contexts.now) ≡ true = le-leb _ _ c.if-contexts-residuals.false in
+    -- what opening said, past the tests of the lists
+    let opens_it : let s = c.args in Opens s.width (header_of s.header.now) s.weights s.mask s.number s.stream s.cells.now s.memory.now c.open-opened.result c.open-opened.new.cells c.open-opened.new.memory = rw (c.header_of-known.ensures, to_z-of_z c.ranges.number, to_z-of_z c.ranges.stream) at c.open-opened.ensures in
+    let is = opens_it in
+    let says = sym is.answers ∙ ap said_opened c.in-Refused.is in
+    record { is = rw (header_there, contexts_there, says, sym is.cells_are, sym is.memory_is, c.number.ensures) }

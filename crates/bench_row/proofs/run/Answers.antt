@@ -17,6 +17,7 @@ loop-y-init c =
 
 pub overflow_mul-from : goal.overflow_mul-from
 overflow_mul-from c =
+    -- a turn
     let from : ℕ = c.loop-y.y * c.args.width in
     let below : c.loop-y.y < c.args.rows = c.loop-y-test.true in
     -- the row lies in the residuals and in the contexts
@@ -74,7 +75,7 @@ returns-in-Refused c =
     let size : from + c.args.width - from ≡ c.args.width = omega arith in
     -- the channel ends as this turn does
     let whole : (end : End) → rows_from c.args.width c.args.references.now c.args.records.now c.args.residuals.now (c.args.rows - c.loop-y.y) c.loop-y.y c.loop-y.session c.loop-y.plane c.loop-y.contexts c.loop-y.cells c.loop-y.memory ≡ end → end ≡ rows_from c.args.width c.args.references.now c.args.records.now c.args.residuals.now c.args.rows 0 c.args.opened c.args.plane.now c.args.contexts.now c.args.cells.now c.args.memory.now = λ end. λ is. sym is ∙ c.loop-y.invariant.ends_alike in
-    -- the library's promise for it
+    -- the row in it: the library's promise for it
     let leaves : let s = c.args in let l = c.loop-y in Leaves (unpacks l.session (part_at s.width l.y s.residuals.now) s.references.now s.records.now l.plane (part_at s.width l.y l.contexts) l.cells l.memory) c.unpack_row-row.result c.unpack_row-row.new.plane c.unpack_row-row.new.contexts c.unpack_row-row.new.cells c.unpack_row-row.new.memory = rw size at c.unpack_row-row.ensures in
     let s = c.args in
     let l = c.loop-y in
@@ -98,7 +99,7 @@ loop-y-preserved c =
     let size : from + c.args.width - from ≡ c.args.width = omega arith in
     -- the channel ends as this turn does
     let whole : (end : End) → rows_from c.args.width c.args.references.now c.args.records.now c.args.residuals.now (c.args.rows - c.loop-y.y) c.loop-y.y c.loop-y.session c.loop-y.plane c.loop-y.contexts c.loop-y.cells c.loop-y.memory ≡ end → end ≡ rows_from c.args.width c.args.references.now c.args.records.now c.args.residuals.now c.args.rows 0 c.args.opened c.args.plane.now c.args.contexts.now c.args.cells.now c.args.memory.now = λ end. λ is. sym is ∙ c.loop-y.invariant.ends_alike in
-    -- the library's promise for it
+    -- the row in it: the library's promise for it
     let leaves : let s = c.args in let l = c.loop-y in Leaves (unpacks l.session (part_at s.width l.y s.residuals.now) s.references.now s.records.now l.plane (part_at s.width l.y l.contexts) l.cells l.memory) c.unpack_row-row.result c.unpack_row-row.new.plane c.unpack_row-row.new.contexts c.unpack_row-row.new.cells c.unpack_row-row.new.memory = rw size at c.unpack_row-row.ensures in
     let s = c.args in
     let l = c.loop-y in

@@ -20,6 +20,7 @@ loop-k-init c =
 
 pub offset_bounds-contexts-k : goal.offset_bounds-contexts-k
 offset_bounds-contexts-k c =
+    -- the turn that an ask begins
     let below : c.loop-k.k < length c.args.residuals.now = c.loop-k-test.true in
     omega (arith, below, c.well_formed)
 
@@ -51,7 +52,7 @@ returns-in-Refused-put c =
     let below : c.loop-k.k < length c.args.residuals.now = c.loop-k-test.true in
     -- the channel ends as this turn does
     let whole : (end : End) → run_from c.args.references.now c.args.records.now c.args.residuals.now (length c.args.residuals.now - c.loop-k.k) c.loop-k.k c.loop-k.session c.loop-k.plane c.loop-k.contexts c.loop-k.cells c.loop-k.memory ≡ end → end ≡ spec.run c.args.references.now c.args.records.now c.args.residuals.now c.args.opened c.args.plane.now c.args.contexts.now c.args.cells.now c.args.memory.now = λ end. λ is. sym is ∙ c.loop-k.invariant.ends_alike in
-    -- the library's promise for it
+    -- the put in it: the library's promise for it
     let puts_it : Puts c.in-Is.waiting.session (get_or c.args.residuals.now c.loop-k.k (pos 0)) c.loop-k.plane c.loop-k.memory c.put-put.result c.put-put.new.plane c.put-put.new.memory = rw (held w32 (get_or c.args.residuals.now c.loop-k.k (pos 0)) c.put-arg-1.given) at c.put-put.ensures in
     let s = c.args in
     let l = c.loop-k in
@@ -83,7 +84,7 @@ loop-k-preserved c =
     let below : c.loop-k.k < length c.args.residuals.now = c.loop-k-test.true in
     -- the channel ends as this turn does
     let whole : (end : End) → run_from c.args.references.now c.args.records.now c.args.residuals.now (length c.args.residuals.now - c.loop-k.k) c.loop-k.k c.loop-k.session c.loop-k.plane c.loop-k.contexts c.loop-k.cells c.loop-k.memory ≡ end → end ≡ spec.run c.args.references.now c.args.records.now c.args.residuals.now c.args.opened c.args.plane.now c.args.contexts.now c.args.cells.now c.args.memory.now = λ end. λ is. sym is ∙ c.loop-k.invariant.ends_alike in
-    -- the library's promise for it
+    -- the put in it: the library's promise for it
     let puts_it : Puts c.in-Is.waiting.session (get_or c.args.residuals.now c.loop-k.k (pos 0)) c.loop-k.plane c.loop-k.memory c.put-put.result c.put-put.new.plane c.put-put.new.memory = rw (held w32 (get_or c.args.residuals.now c.loop-k.k (pos 0)) c.put-arg-1.given) at c.put-put.ensures in
     let s = c.args in
     let l = c.loop-k in
