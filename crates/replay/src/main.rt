@@ -108,22 +108,22 @@ fn read_all(input: &mut impl Read) -> Step {
 // No record at all is no success: then the input is missing.
 fn end(rt: &impl Print, tally: Tally) {
     if tally.all == 0 {
-        tally::text(rt, "no records\n");
+        tally::text(rt, b"no records\n");
     } else {
-        tally::text(rt, "all equal\n");
+        tally::text(rt, b"all equal\n");
     }
 }
 
 fn stop(rt: &impl Print, tally: Tally, why: Outcome) {
-    tally::text(rt, "record ");
+    tally::text(rt, b"record ");
     tally::natural(rt, tally.all);
     match why {
-        Outcome::Equal => tally::text(rt, " is equal\n"),
-        Outcome::Differs => tally::text(rt, " differs\n"),
-        Outcome::Refused => tally::text(rt, " is refused\n"),
-        Outcome::NoForm => tally::text(rt, " has no form\n"),
-        Outcome::CutShort => tally::text(rt, " is cut short\n"),
-        Outcome::Unread => tally::text(rt, " cannot be read\n"),
+        Outcome::Equal => tally::text(rt, b" is equal\n"),
+        Outcome::Differs => tally::text(rt, b" differs\n"),
+        Outcome::Refused => tally::text(rt, b" is refused\n"),
+        Outcome::NoForm => tally::text(rt, b" has no form\n"),
+        Outcome::CutShort => tally::text(rt, b" is cut short\n"),
+        Outcome::Unread => tally::text(rt, b" cannot be read\n"),
     }
 }
 
@@ -131,7 +131,7 @@ fn main(rt: HostRuntime) {
     match read_all(&mut rt.reader()) {
         Step::On(tally) => {
             tally.print(&rt);
-            tally::text(&rt, "the input goes on\n");
+            tally::text(&rt, b"the input goes on\n");
         }
         Step::Ended(tally) => {
             tally.print(&rt);

@@ -95,34 +95,34 @@ impl Tally {
     }
 
     pub fn print(self, rt: &impl Print) {
-        line(rt, "floor_log2_nonzero: ", self.floor_log2);
-        line(rt, "error_weight: ", self.error_weight);
-        line(rt, "get_rows: ", self.get_rows);
-        line(rt, "update_for_interior_row: ", self.update);
-        line(rt, "predict_one: ", self.predict_one);
-        line(rt, "do_rct_step: ", self.do_rct_step);
-        line(rt, "predict_and_property: ", self.predict_and_property);
-        line(rt, "update_errors: ", self.update_errors);
-        line(rt, "compute_used_property_mask: ", self.mask);
-        line(rt, "validate_tree: ", self.validate_tree);
-        line(rt, "compute_properties: ", self.compute_properties);
-        line(rt, "predict: ", self.predict);
-        line(rt, "build_flat_tree: ", self.build_flat_tree);
-        line(rt, "predict_flat: ", self.predict_flat);
+        line(rt, b"floor_log2_nonzero: ", self.floor_log2);
+        line(rt, b"error_weight: ", self.error_weight);
+        line(rt, b"get_rows: ", self.get_rows);
+        line(rt, b"update_for_interior_row: ", self.update);
+        line(rt, b"predict_one: ", self.predict_one);
+        line(rt, b"do_rct_step: ", self.do_rct_step);
+        line(rt, b"predict_and_property: ", self.predict_and_property);
+        line(rt, b"update_errors: ", self.update_errors);
+        line(rt, b"compute_used_property_mask: ", self.mask);
+        line(rt, b"validate_tree: ", self.validate_tree);
+        line(rt, b"compute_properties: ", self.compute_properties);
+        line(rt, b"predict: ", self.predict);
+        line(rt, b"build_flat_tree: ", self.build_flat_tree);
+        line(rt, b"predict_flat: ", self.predict_flat);
     }
 }
 
 // That standard output cannot be written is told nowhere.
-pub fn text(rt: &impl Print, words: &str) {
-    let _ = rt.print(words);
+pub fn text(rt: &impl Print, bytes: &[u8]) {
+    let _ = rt.write_all(bytes);
 }
 
 pub fn natural(rt: &impl Print, n: u64) {
     let _ = rt.print(n);
 }
 
-fn line(rt: &impl Print, name: &str, n: u64) {
+fn line(rt: &impl Print, name: &[u8], n: u64) {
     text(rt, name);
     natural(rt, n);
-    text(rt, " equal\n");
+    text(rt, b" equal\n");
 }
