@@ -1,13 +1,9 @@
 -- Module 1 of document 01: the table's rule, the highest set bit, the error weight.
-use Rattle.std.specs.Prelude.{◌||◌, [], ◌∷◌, ◌≡◌, refl, ℕ, zero, suc, ◌+◌, ◌-◌, ◌*◌, ◌/◌, ◌%◌, ◌^◌, ltb, eqb, pos}
-use Rattle.std.proofs.Common.{ap}
+use Rattle.std.specs.Prelude.{◌||◌, [], ◌∷◌, ◌≡◌, ℕ, zero, suc, ◌+◌, ◌-◌, ◌*◌, ◌/◌, ◌%◌, ◌^◌, ltb, eqb, pos, Result}
 use Rattle.integer.specs.Order.{if}
-use Rattle.refusal.specs.Paper.{Outcome, gives, refuses, paper, read_back, reads_back, one_answer}
+use Rattle.refusal.specs.Paper.{Outcome, gives, refuses, said, one_result}
+use Rattle.refusal.specs.declared.Refusal.{Refusal}
 use Rattle.arith.specs.declared.Four.{Four}
-use Rattle.arith.specs.declared.Weight.{Weight}
-use Rattle.arith.specs.declared.Weight.TheVariants.{Is, Refused}
-use Rattle.arith.specs.declared.Weights.{Weights}
-use Rattle.arith.specs.declared.Weights.TheVariants as weights
 
 -- entry i of the table is 2^24 / (i + 1) rounded down, i = 0 .. 63
 abbrev pub entry : ℕ → ℕ
@@ -46,34 +42,10 @@ abbrev pub error_weights : Four → Four → Outcome Four
 error_weights x m =
     if (ltb 15 m.e0 || ltb 15 m.e1 || ltb 15 m.e2 || ltb 15 m.e3) (refuses 12 (pos 0 ∷ [])) (gives (weights_of x m))
 
--- ---- the answer in the paper's terms, and determinacy
+-- ---- determinacy
 
-abbrev pub said : Weight → Outcome ℕ
-said (Is weight) = gives weight
-said (Refused refusal) = paper refusal
+pub error_weight_determined : (x m : ℕ) (r s : Result ℕ Refusal) → said r ≡ error_weight x m → said s ≡ error_weight x m → r ≡ s
+error_weight_determined x m r s p q = one_result r s p q
 
-abbrev unsaid : Outcome ℕ → Weight
-unsaid (gives weight) = Is weight
-unsaid (refuses n ds) = Refused (read_back n ds)
-
-said_again : (r : Weight) → unsaid (said r) ≡ r
-said_again (Is weight) = refl
-said_again (Refused refusal) = ap Refused (reads_back refusal)
-
-pub error_weight_determined : (x m : ℕ) (r s : Weight) → said r ≡ error_weight x m → said s ≡ error_weight x m → r ≡ s
-error_weight_determined x m r s p q = one_answer said unsaid said_again r s p q
-
-abbrev pub said_weights : Weights → Outcome Four
-said_weights (weights.Are w) = gives w
-said_weights (weights.Refused refusal) = paper refusal
-
-abbrev unsaid_weights : Outcome Four → Weights
-unsaid_weights (gives w) = weights.Are w
-unsaid_weights (refuses n ds) = weights.Refused (read_back n ds)
-
-weights_again : (r : Weights) → unsaid_weights (said_weights r) ≡ r
-weights_again (weights.Are w) = refl
-weights_again (weights.Refused refusal) = ap weights.Refused (reads_back refusal)
-
-pub error_weights_determined : {v : Outcome Four} (r s : Weights) → said_weights r ≡ v → said_weights s ≡ v → r ≡ s
-error_weights_determined r s p q = one_answer said_weights unsaid_weights weights_again r s p q
+pub error_weights_determined : {v : Outcome Four} (r s : Result Four Refusal) → said r ≡ v → said s ≡ v → r ≡ s
+error_weights_determined r s p q = one_result r s p q

@@ -2,7 +2,7 @@
 #![tactic(auto)]
 
 ghost use Rattle.std.specs.Prelude.{◌≡◌, ◌≤◌};
-ghost use Rattle.integer.specs.Fill.{tabulate};
+ghost use Rattle.refusal.specs.Paper.{said};
 ghost use Rattle.arith.specs.Weights.{
   entry,
   entry_at,
@@ -10,8 +10,6 @@ ghost use Rattle.arith.specs.Weights.{
   weight_of,
   error_weight,
   error_weights,
-  said,
-  said_weights,
 };
 
 use refusal::Refusal;
@@ -30,7 +28,8 @@ const DIVLOOKUP: [u32; 64] = [
 pub fn division_entry(index: u32) -> u32
     ensures { result ≡ entry_at index }
 {
-    DIVLOOKUP[(index % 64) as usize]
+    let table = &DIVLOOKUP;
+    table[(index % 64) as usize]
 }
 
 // The place of the highest set bit, by leading zeros. At 0, which has none, 127 as the Rust answers.
@@ -41,14 +40,8 @@ pub fn floor_log2_nonzero(x: u64) -> u32
     if zeros < 64 { 63 - zeros } else { 127 }
 }
 
-#[derive(Clone, Copy)]
-pub enum Weight {
-    Is(u32),
-    Refused(Refusal),
-}
-
 // A number for each of the four sub-predictors: its errors, their sums, its weight.
-#[derive(Clone, Copy)]
+#[derive(Clone, Copy, Debug, PartialEq, Eq)]
 pub struct Four {
     pub e0: u32,
     pub e1: u32,
@@ -56,58 +49,41 @@ pub struct Four {
     pub e3: u32,
 }
 
-#[derive(Clone, Copy)]
-pub enum Weights {
-    Are(Four),
-    Refused(Refusal),
-}
-
-// The weight that an error x leaves of maxweight, by the table. It is lent: an array's copy is made once for all who ask.
-fn weight_by(table: &[u32], x: u32, maxweight: u32) -> u32
-    requires { (table.now ≡ tabulate entry 64) × (maxweight ≤ 15) }
+// The weight that an error x leaves of maxweight.
+fn weight_of(x: u32, maxweight: u32) -> u32
+    requires { maxweight ≤ 15 }
     ensures { result ≡ weight_of x maxweight }
 {
     // x + 1 in 64 bits: it does not wrap
     let log = floor_log2_nonzero(x as u64 + 1);
     if log < 5 {
-        return 4 + maxweight * table[(x % 64) as usize];
+        return 4 + maxweight * division_entry(x);
     }
     let shift = log - 5;
-    4 + ((maxweight * table[((x >> shift) % 64) as usize]) >> shift)
+    4 + ((maxweight * division_entry(x >> shift)) >> shift)
 }
 
 // The weight that an error x leaves of maxweight, which is at most 15.
-pub fn error_weight(x: u32, maxweight: u32) -> Weight
+pub fn error_weight(x: u32, maxweight: u32) -> Result<u32, Refusal>
     ensures { said result ≡ error_weight x maxweight }
 {
     if 15 < maxweight {
-        return Weight::Refused(Refusal::HeaderRange);
+        return Err(Refusal::HeaderRange);
     }
-    let table = DIVLOOKUP;
-    Weight::Is(weight_by(&table, x, maxweight))
+    Ok(weight_of(x, maxweight))
 }
 
 // The same for each of four.
-pub fn error_weights(x: Four, maxweight: Four) -> Weights
-    ensures { said_weights result ≡ error_weights x maxweight }
+pub fn error_weights(x: Four, maxweight: Four) -> Result<Four, Refusal>
+    ensures { said result ≡ error_weights x maxweight }
 {
-    if 15 < maxweight.e0 {
-        return Weights::Refused(Refusal::HeaderRange);
+    if 15 < maxweight.e0 || 15 < maxweight.e1 || 15 < maxweight.e2 || 15 < maxweight.e3 {
+        return Err(Refusal::HeaderRange);
     }
-    if 15 < maxweight.e1 {
-        return Weights::Refused(Refusal::HeaderRange);
-    }
-    if 15 < maxweight.e2 {
-        return Weights::Refused(Refusal::HeaderRange);
-    }
-    if 15 < maxweight.e3 {
-        return Weights::Refused(Refusal::HeaderRange);
-    }
-    let table = DIVLOOKUP;
-    Weights::Are(Four {
-        e0: weight_by(&table, x.e0, maxweight.e0),
-        e1: weight_by(&table, x.e1, maxweight.e1),
-        e2: weight_by(&table, x.e2, maxweight.e2),
-        e3: weight_by(&table, x.e3, maxweight.e3),
+    Ok(Four {
+        e0: weight_of(x.e0, maxweight.e0),
+        e1: weight_of(x.e1, maxweight.e1),
+        e2: weight_of(x.e2, maxweight.e2),
+        e3: weight_of(x.e3, maxweight.e3),
     })
 }

@@ -6,8 +6,9 @@ use native.Mathlib.Decide.{dec_lt}
 use native.Mathlib.Nat.{add-zero, add-suc}
 use native.Mathlib.Numerals.{add-one}
 use native.Mathlib.Omega.{arith}
-use lib.ListN.{length, set, take, drop, get_or, length-append, length-drop, get_or-append, drop_of_length-le}
+use lib.ListN.{replicate, length, set, take, drop, get_or, length-append, length-drop, get_or-append, drop_of_length-le}
 use lib.Seq.{drop-cons, set_at, get_or-append-add, get_or_at, get_or-drop, get_or-take, drop-drop, take_at, drop_at, ext_get_or}
+use Rattle.std.proofs.lemmas.List.{replicate_more}
 use Rattle.integer.specs.Fill.{tabulate, filled}
 
 module _ {A : Type 0} (f : ℕ → A) where
@@ -56,6 +57,13 @@ module _ {A : Type 0} (f : ℕ → A) where
   filled_all n words e =
       let past : length words ≤ n = omega arith in
       rw (drop_of_length-le words past) (append-nil (tabulate f n))
+
+-- a rule that gives one value fills with it
+pub tabulate_constant : {A : Type 0} (a : A) (n : ℕ) → tabulate (λ k. a) n ≡ replicate n a
+unfolding tabulate
+tabulate_constant a zero = refl
+tabulate_constant {A} a (suc n) =
+    ap (λ (l : List A). l ++ (a ∷ [])) (tabulate_constant a n) ∙ replicate_more n a ∙ ap (λ (m : ℕ). replicate m a) (add-one n)
 
 -- a list is its own cells
 pub tabulate_self : {A : Type 0} (words : List A) (d : A) → tabulate (λ k. get_or words k d) (length words) ≡ words

@@ -15,18 +15,18 @@ pub fn low_word(x: i64) -> i32
     ((x << 32) >> 32) as i32
 }
 
-// The smaller of two.
+// The smaller of two, by the test a < b.
 pub fn min(a: i64, b: i64) -> i64
     ensures { result ≡ smaller a b }
 {
-    if a < b { a } else { b }
+    b.min(a)
 }
 
-// The larger of two.
+// The larger of two, by the same test.
 pub fn max(a: i64, b: i64) -> i64
     ensures { result ≡ larger a b }
 {
-    if a < b { b } else { a }
+    b.max(a)
 }
 
 // The same number in 64 bits.
@@ -39,20 +39,20 @@ pub fn widen(x: i32) -> i64
 pub fn wrapping_add(a: i32, b: i32) -> i32
     ensures { result ≡ wrap (a +ℤ b) }
 {
-    low_word(a as i64 + b as i64)
+    a.wrapping_add(b)
 }
 
 pub fn wrapping_sub(a: i32, b: i32) -> i32
     ensures { result ≡ wrap (a -ℤ b) }
 {
-    low_word(a as i64 - b as i64)
+    a.wrapping_sub(b)
 }
 
 // The magnitude; that of -2^31 wraps to -2^31.
 pub fn wrapping_abs(a: i32) -> i32
     ensures { result ≡ wrap (magnitude a) }
 {
-    if a < 0 { wrapping_sub(0, a) } else { a }
+    a.wrapping_abs()
 }
 
 // a / 2^k rounded down, for every k.
@@ -66,27 +66,19 @@ pub fn shift_right(a: i32, k: u32) -> i32
 pub fn to_bits(a: i32) -> u32
     ensures { result ≡ bits_of a }
 {
-    if a < 0 {
-        (a as i64 + 4294967296) as u32
-    } else {
-        a as u32
-    }
+    a.cast_unsigned()
 }
 
 // The number with this bit pattern.
 pub fn from_bits(bits: u32) -> i32
     ensures { result ≡ wrap (pos bits) }
 {
-    low_word(bits as i64)
+    bits.cast_signed()
 }
 
 // All lent words become 0.
 pub fn clear(lent: &mut [i32])
     ensures { lent.new ≡ tabulate (λ i. pos 0) (length lent.old) }
 {
-    let mut i = 0;
-    while i < lent.len() {
-        lent[i] = 0;
-        i += 1;
-    }
+    lent.fill(0);
 }

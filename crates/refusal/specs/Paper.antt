@@ -1,5 +1,5 @@
 -- Document 01's table of refusals: the number of each case and its details. A later number joins by a line in each definition.
-use Rattle.std.specs.Prelude.{Bool, true, false, List, [], ◌∷◌, ◌≡◌, refl, ℕ, eqb, ℤ, pos, nat_abs, get_or}
+use Rattle.std.specs.Prelude.{Bool, true, false, List, [], ◌∷◌, ◌≡◌, refl, ℕ, eqb, ℤ, pos, nat_abs, get_or, Result, Ok, Err}
 use Rattle.std.proofs.Common.{ap, sym, ◌∙◌}
 use Rattle.refusal.specs.declared.Refusal.{Refusal}
 use Rattle.refusal.specs.declared.Refusal.TheVariants.{WordCount, TooMany, NotInForm, OutOfPlace, EmptyList, TooDeep, EmptySide, TooSmall, WideOffset, TooFewCells, WrongSize, HeaderRange, OutOfTurn, NoSuchColour}
@@ -44,6 +44,11 @@ pub data Outcome (A : Type 0) : Type 0 where
 
 abbrev pub paper : {A : Type 0} → Refusal → Outcome A
 paper r = refuses (number_of r) (details_of r)
+
+-- a result in the paper's terms: what the library's functions answer
+abbrev pub said : {A : Type 0} → Result A Refusal → Outcome A
+said (Ok a) = gives a
+said (Err refusal) = paper refusal
 
 -- ---- number and details tell the cases apart, so a promise in the paper's terms leaves one answer only
 
@@ -98,6 +103,19 @@ one_value p q = p ∙ sym q
 
 pub one_answer : {R A : Type 0} (view : R → Outcome A) (back : Outcome A → R) → ((r : R) → back (view r) ≡ r) → {v : Outcome A} (r s : R) → view r ≡ v → view s ≡ v → r ≡ s
 one_answer view back again r s p q = sym (again r) ∙ ap back (one_value p q) ∙ again s
+
+-- the result that says this
+abbrev pub unsaid : {A : Type 0} → Outcome A → Result A Refusal
+unsaid (gives a) = Ok a
+unsaid (refuses n ds) = Err (read_back n ds)
+
+pub said_again : {A : Type 0} (r : Result A Refusal) → unsaid (said r) ≡ r
+said_again (Ok a) = refl
+said_again (Err refusal) = ap Err (reads_back refusal)
+
+-- of all answers that say the same there is one
+pub one_result : {A : Type 0} {v : Outcome A} (r s : Result A Refusal) → said r ≡ v → said s ≡ v → r ≡ s
+one_result r s p q = one_answer said unsaid said_again r s p q
 
 -- the promise of `first_detail` leaves one number
 pub first_detail_determined : (a : Refusal) (r s : ℕ) → pos r ≡ get_or (details_of a) 0 (pos 0) → pos s ≡ get_or (details_of a) 0 (pos 0) → r ≡ s

@@ -4,9 +4,14 @@
 
 ghost use Rattle.std.specs.Prelude.{◌≡◌, pos, get_or};
 ghost use Rattle.refusal.specs.Paper.{number_of, details_of};
+ghost use Rattle.refusal.specs.Shown.{shown, shown_side};
+ghost use Rattle.std.specs.Prelude.{Some};
+
+use std::error::Error;
+use std::fmt;
 
 // A split that leaves a side empty: its place, its test, and the range in which its property still lies.
-#[derive(Clone, Copy)]
+#[derive(Clone, Copy, Debug, PartialEq, Eq)]
 pub struct Side {
     pub place: u32,
     pub property: u32,
@@ -15,7 +20,7 @@ pub struct Side {
     pub high: i32,
 }
 
-#[derive(Clone, Copy)]
+#[derive(Clone, Copy, Debug, PartialEq, Eq)]
 pub enum Refusal {
     // 1: the word count is no multiple of the node or record size
     WordCount,
@@ -92,3 +97,66 @@ impl Refusal {
         }
     }
 }
+
+impl fmt::Display for Side {
+    ghost output = { λ side. Some (shown_side side) };
+
+    fn fmt<W: fmt::Write>(&self, f: &mut fmt::Formatter<W>) -> fmt::Result {
+        let place = self.place;
+        let property = self.property;
+        let value = self.value;
+        let low = self.low;
+        let high = self.high;
+        write!(
+            f,
+            "place {place}, property {property}, value {value}, low {low}, high {high}"
+        )
+    }
+}
+
+// The number, the meaning in words, and the details: what a log shows.
+impl fmt::Display for Refusal {
+    ghost output = { λ refusal. Some (shown refusal) };
+
+    fn fmt<W: fmt::Write>(&self, f: &mut fmt::Formatter<W>) -> fmt::Result {
+        match self {
+            Refusal::WordCount => write!(
+                f,
+                "1, a word count that is no multiple of the node or record size"
+            ),
+            Refusal::TooMany => write!(f, "2, too many nodes or records"),
+            Refusal::NotInForm { place } => write!(
+                f,
+                "3, a node or record that is not in its form: place {place}"
+            ),
+            Refusal::OutOfPlace { place } => write!(
+                f,
+                "4, children out of place, or a list too short or too long: place {place}"
+            ),
+            Refusal::EmptyList => write!(f, "5, a walk over an empty list"),
+            Refusal::TooDeep { place } => write!(f, "6, a node at depth 2049: place {place}"),
+            Refusal::EmptySide(side) => write!(f, "7, a split with an empty side: {side}"),
+            Refusal::TooSmall { needed } => write!(
+                f,
+                "8, a work area, memory, ring or output too small: words needed {needed}"
+            ),
+            Refusal::WideOffset { place } => write!(
+                f,
+                "9, a leaf offset outside -32768..32767: place {place}"
+            ),
+            Refusal::TooFewCells { needed } => write!(
+                f,
+                "10, too few cells: cells needed {needed}"
+            ),
+            Refusal::WrongSize => write!(
+                f,
+                "11, a width, position, row length or plane length that is wrong"
+            ),
+            Refusal::HeaderRange => write!(f, "12, a header value out of range"),
+            Refusal::OutOfTurn => write!(f, "13, a call out of turn"),
+            Refusal::NoSuchColour => write!(f, "14, a colour operation over 6 or an order over 5"),
+        }
+    }
+}
+
+impl Error for Refusal {}
