@@ -1,13 +1,12 @@
 -- Module 9 of document 01, colour: the image of a triple under an operation and an order, and of three planes.
-use Rattle.std.specs.Prelude.{◌&&◌, ◌||◌, List, [], ◌∷◌, ◌≡◌, refl, ℕ, ltb, eqb, ℤ, pos, ◌+ℤ◌, ◌-ℤ◌, length, get_or}
-use Rattle.std.proofs.Common.{ap, sym, ◌∙◌}
+use Rattle.std.specs.Prelude.{◌&&◌, ◌||◌, List, [], ◌∷◌, ◌≡◌, ℕ, ltb, eqb, ℤ, pos, ◌+ℤ◌, ◌-ℤ◌, length, get_or, Result}
+use Rattle.std.proofs.Common.{sym, ◌∙◌}
 use Rattle.std.specs.Int.Signed.{shr_z}
 use Rattle.integer.specs.Fill.{tabulate}
 use Rattle.integer.specs.Order.{if}
 use Rattle.integer.specs.Word.{wrap}
-use Rattle.refusal.specs.Paper.{Outcome, gives, refuses, paper, read_back, reads_back, one_answer}
-use Rattle.colour.specs.declared.restore.Restored.{Restored}
-use Rattle.colour.specs.declared.restore.Restored.TheVariants.{Done, Refused}
+use Rattle.refusal.specs.Paper.{Outcome, gives, refuses, said, one_result}
+use Rattle.refusal.specs.declared.Refusal.{Refusal}
 use Rattle.colour.specs.declared.restore.Triple.{Triple}
 
 -- all wrap at 32 bits; a shift by one is a half rounded down
@@ -109,32 +108,15 @@ abbrev pub after : (Triple → ℤ) → ℕ → ℕ → List ℤ → List ℤ �
 after pick operation order a b c (gives done) plane = tabulate (restored pick operation order a b c) (length a)
 after pick operation order a b c (refuses number details) plane = plane
 
-abbrev pub said : Restored → Outcome Unit
-said Done = gives tt
-said (Refused refusal) = paper refusal
-
-pub record Restores (operation order : ℕ) (a b c : List ℤ) (r : Restored) (a' b' c' : List ℤ) : Type 0 where
-  pub answers : said r ≡ outcome operation order a b c
-  pub holds_a : a' ≡ after first operation order a b c (outcome operation order a b c) a
-  pub holds_b : b' ≡ after second operation order a b c (outcome operation order a b c) b
-  pub holds_c : c' ≡ after third operation order a b c (outcome operation order a b c) c
-
 -- ---- determinacy
 
-abbrev unsaid : Outcome Unit → Restored
-unsaid (gives done) = Done
-unsaid (refuses n ds) = Refused (read_back n ds)
-
-said_again : (r : Restored) → unsaid (said r) ≡ r
-said_again Done = refl
-said_again (Refused refusal) = ap Refused (reads_back refusal)
-
-pub restores_determined : {operation order : ℕ} {a b c : List ℤ} {r s : Restored} {a' b' c' a'' b'' c'' : List ℤ}
-    → Restores operation order a b c r a' b' c' → Restores operation order a b c s a'' b'' c''
+pub restores_determined : (operation order : ℕ) (a b c : List ℤ) (r s : Result Unit Refusal) {a' b' c' a'' b'' c'' : List ℤ}
+    → said r ≡ outcome operation order a b c → said s ≡ outcome operation order a b c
+    → a' ≡ after first operation order a b c (outcome operation order a b c) a
+    → a'' ≡ after first operation order a b c (outcome operation order a b c) a
+    → b' ≡ after second operation order a b c (outcome operation order a b c) b
+    → b'' ≡ after second operation order a b c (outcome operation order a b c) b
+    → c' ≡ after third operation order a b c (outcome operation order a b c) c
+    → c'' ≡ after third operation order a b c (outcome operation order a b c) c
     → (r ≡ s) × (a' ≡ a'') × (b' ≡ b'') × (c' ≡ c'')
-restores_determined {r = r} {s = s} p q = (
-  one_answer said unsaid said_again r s p.answers q.answers,
-  p.holds_a ∙ sym q.holds_a,
-  p.holds_b ∙ sym q.holds_b,
-  p.holds_c ∙ sym q.holds_c,
-)
+restores_determined operation order a b c r s p q pa qa pb qb pc qc = (one_result r s p q, pa ∙ sym qa, pb ∙ sym qb, pc ∙ sym qc)

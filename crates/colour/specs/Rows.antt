@@ -1,10 +1,8 @@
 -- Module 9 of document 01, rows: a plane is packed rows of the width, and row y is that part of it.
-use Rattle.std.specs.Prelude.{Bool, ◌&&◌, List, [], ◌∷◌, ◌≡◌, refl, ℕ, ◌+◌, ◌*◌, ◌/◌, ◌%◌, ◌^◌, leb, ltb, eqb, ℤ, pos, length, take, drop}
-use Rattle.std.proofs.Common.{ap}
+use Rattle.std.specs.Prelude.{Bool, ◌&&◌, List, [], ◌∷◌, ◌≡◌, ℕ, ◌+◌, ◌*◌, ◌/◌, ◌%◌, ◌^◌, leb, ltb, eqb, ℤ, pos, length, take, drop, Result}
 use Rattle.integer.specs.Order.{if}
-use Rattle.refusal.specs.Paper.{Outcome, gives, refuses, paper, read_back, reads_back, one_answer}
-use Rattle.colour.specs.declared.rows.RowCheck.{RowCheck}
-use Rattle.colour.specs.declared.rows.RowCheck.TheVariants.{There, Refused}
+use Rattle.refusal.specs.Paper.{Outcome, gives, refuses, said, one_result}
+use Rattle.refusal.specs.declared.Refusal.{Refusal}
 
 -- a width of 1..65,536, a whole number of rows, and y one of them and below 2^30
 abbrev pub is_row : ℕ → ℕ → ℕ → Bool
@@ -27,17 +25,5 @@ pub record IsRow (plane : List ℤ) (place : ℕ × ℕ) (width y : ℕ) (part :
 abbrev pub row_outcome : List ℤ → ℕ → ℕ → Outcome Unit
 row_outcome plane width y = if (is_row (length plane) width y) (gives tt) (refuses 11 (pos 0 ∷ []))
 
-abbrev pub said : RowCheck → Outcome Unit
-said There = gives tt
-said (Refused refusal) = paper refusal
-
-abbrev unsaid : Outcome Unit → RowCheck
-unsaid (gives done) = There
-unsaid (refuses n ds) = Refused (read_back n ds)
-
-said_again : (r : RowCheck) → unsaid (said r) ≡ r
-said_again There = refl
-said_again (Refused refusal) = ap Refused (reads_back refusal)
-
-pub row_determined : {v : Outcome Unit} (r s : RowCheck) → said r ≡ v → said s ≡ v → r ≡ s
-row_determined r s p q = one_answer said unsaid said_again r s p q
+pub row_determined : {v : Outcome Unit} (r s : Result Unit Refusal) → said r ≡ v → said s ≡ v → r ≡ s
+row_determined r s p q = one_result r s p q

@@ -1,22 +1,27 @@
 // Colour restore: an operation on each triple of words, then an order of the three planes. All wrap at 32 bits.
 ghost use Rattle.std.specs.Prelude.{◌≡◌, ◌≤◌, ◌<◌, length};
-ghost use Rattle.colour.specs.Restore.{averaged, operate, reorder, Written, Restores};
+ghost use Rattle.colour.specs.Restore.{
+  after,
+  averaged,
+  first,
+  operate,
+  outcome,
+  reorder,
+  second,
+  third,
+  Written,
+};
+ghost use Rattle.refusal.specs.Paper.{said};
 
 use integer::{shift_right, wrapping_add, wrapping_sub};
 use refusal::Refusal;
 
 // A word of each plane.
-#[derive(Clone, Copy)]
+#[derive(Clone, Copy, Debug, PartialEq, Eq)]
 pub struct Triple {
     pub a: i32,
     pub b: i32,
     pub c: i32,
-}
-
-#[derive(Clone, Copy)]
-pub enum Restored {
-    Done,
-    Refused(Refusal),
 }
 
 // The average of a and c joins b.
@@ -103,9 +108,7 @@ fn restore_all(a: &mut [i32], b: &mut [i32], c: &mut [i32], operation: u32, orde
     requires { (length b.old ≡ length a.old) × (length c.old ≡ length a.old) }
     ensures { Written operation order a.old b.old c.old a.new b.new c.new }
 {
-    let n = a.len();
-    let mut i = 0;
-    while i < n {
+    for i in 0..a.len() {
         let t = Triple {
             a: a[i],
             b: b[i],
@@ -119,7 +122,6 @@ fn restore_all(a: &mut [i32], b: &mut [i32], c: &mut [i32], operation: u32, orde
         a[i] = first;
         c[i] = third;
         b[i] = second;
-        i += 1;
     }
 }
 
@@ -199,25 +201,22 @@ pub fn do_rct_step(
     c: &mut [i32],
     operation: u32,
     order: u32,
-) -> Restored
-    ensures { Restores operation order a.old b.old c.old result a.new b.new c.new }
+) -> Result<(), Refusal>
+    ensures answers { said result ≡ outcome operation order a.old b.old c.old }
+    ensures holds_a { a.new ≡ after first operation order a.old b.old c.old (outcome operation order a.old b.old c.old) a.old }
+    ensures holds_b { b.new ≡ after second operation order a.old b.old c.old (outcome operation order a.old b.old c.old) b.old }
+    ensures holds_c { c.new ≡ after third operation order a.old b.old c.old (outcome operation order a.old b.old c.old) c.old }
 {
-    if 6 < operation {
-        return Restored::Refused(Refusal::NoSuchColour);
+    if 6 < operation || 5 < order {
+        return Err(Refusal::NoSuchColour);
     }
-    if 5 < order {
-        return Restored::Refused(Refusal::NoSuchColour);
-    }
-    if b.len() != a.len() {
-        return Restored::Refused(Refusal::WrongSize);
-    }
-    if c.len() != a.len() {
-        return Restored::Refused(Refusal::WrongSize);
+    if b.len() != a.len() || c.len() != a.len() {
+        return Err(Refusal::WrongSize);
     }
     if order == 0 {
         operate_all(a, b, c, operation);
-        return Restored::Done;
+    } else {
+        restore_parts(a, b, c, operation, order);
     }
-    restore_parts(a, b, c, operation, order);
-    Restored::Done
+    Ok(())
 }

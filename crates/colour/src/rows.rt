@@ -1,32 +1,15 @@
 // A plane is packed rows of the width.
 ghost use Rattle.std.specs.Prelude.{◌≡◌};
-ghost use Rattle.colour.specs.Rows.{is_row, IsRow, row_outcome, said};
+ghost use Rattle.colour.specs.Rows.{is_row, IsRow, row_outcome};
+ghost use Rattle.refusal.specs.Paper.{said};
 
 use refusal::Refusal;
-
-#[derive(Clone, Copy)]
-pub enum RowCheck {
-    There,
-    Refused(Refusal),
-}
 
 // Whether the plane has a row y of this width.
 pub fn has_row(length: usize, width: usize, y: usize) -> bool
     ensures { result ≡ is_row length width y }
 {
-    if width == 0 {
-        return false;
-    }
-    if 65536 < width {
-        return false;
-    }
-    if length % width != 0 {
-        return false;
-    }
-    if 1073741824 <= y {
-        return false;
-    }
-    y * width < length
+    width != 0 && width <= 65536 && length % width == 0 && y < 1073741824 && y * width < length
 }
 
 // Row y, as that part of the plane; an empty part if it is refused.
@@ -54,12 +37,12 @@ pub fn row_mut(plane: &mut [i32], width: usize, y: usize) -> &mut [i32]
 }
 
 // Why row y is refused, or that it is there.
-pub fn row_refusal(plane: &[i32], width: usize, y: usize) -> RowCheck
+pub fn row_refusal(plane: &[i32], width: usize, y: usize) -> Result<(), Refusal>
     ensures { said result ≡ row_outcome plane.now width y }
 {
     if has_row(plane.len(), width, y) {
-        RowCheck::There
+        Ok(())
     } else {
-        RowCheck::Refused(Refusal::WrongSize)
+        Err(Refusal::WrongSize)
     }
 }

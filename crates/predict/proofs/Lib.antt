@@ -4,3 +4,4 @@ pub mod Rows
 pub mod Shortcut
 pub mod StandardNeighbours
 pub mod StandardPredictors
+pub mod Sums

@@ -7,7 +7,7 @@ use native.Mathlib.Omega.{arith}
 use Prim.Native.Nat.{ℕ}
 use Rattle.integer.proofs.Parts.{of_plus, of_minus, same}
 use Rattle.predict.specs.declared.neighbours.PredictionData.{PredictionData}
-use Rattle.predict.specs.declared.predictors.Numbered.TheVariants.{Is}
+use Rattle.std.proofs.Common.{Ok}
 use Rattle.predict.specs.declared.predictors.Predictor.{Predictor}
 use Rattle.predict.specs.declared.predictors.Predictor.TheVariants.{
   Zero,
@@ -80,7 +80,7 @@ guess_is_standard AverageNorthAndNorthEast d wp = refl
 guess_is_standard AverageAll d wp = refl
 
 -- The numbers are those by which predictors are read.
-pub numbered_is : (p : Predictor) → numbered (number_of p) ≡ Is p
+pub numbered_is : (p : Predictor) → numbered (number_of p) ≡ Ok p
 numbered_is Zero = refl
 numbered_is West = refl
 numbered_is North = refl

@@ -1,11 +1,9 @@
 -- Module 2 of document 01: the seven neighbours by the fallbacks of `get_rows`, when they are refused, and the interior shortcut.
-use Rattle.std.specs.Prelude.{Bool, true, ◌&&◌, List, [], ◌∷◌, ◌≡◌, refl, ℕ, ◌+◌, ◌-◌, ◌^◌, ◌≤◌, ◌<◌, ltb, leb, eqb, ℤ, pos, length, get_or}
-use Rattle.std.proofs.Common.{ap}
+use Rattle.std.specs.Prelude.{Bool, true, ◌&&◌, List, [], ◌∷◌, ◌≡◌, ℕ, ◌+◌, ◌-◌, ◌^◌, ◌≤◌, ◌<◌, ltb, leb, eqb, ℤ, pos, length, get_or, Result}
 use Rattle.integer.specs.Order.{if}
-use Rattle.refusal.specs.Paper.{Outcome, gives, refuses, paper, read_back, reads_back, one_answer}
+use Rattle.refusal.specs.Paper.{Outcome, gives, refuses, said, one_result}
+use Rattle.refusal.specs.declared.Refusal.{Refusal}
 use Rattle.predict.specs.declared.neighbours.PredictionData.{PredictionData}
-use Rattle.predict.specs.declared.neighbours.Neighbourhood.{Neighbourhood}
-use Rattle.predict.specs.declared.neighbours.Neighbourhood.TheVariants.{Is, Refused}
 
 -- `get_or row k fallback` is cell k of the row, else the fallback; a row that is absent is empty
 
@@ -90,19 +88,7 @@ abbrev pub shortcut : PredictionData → List ℤ → List ℤ → ℕ → ℤ �
 shortcut old top toptop x cur needs_top needs_toptop =
     if (interior top toptop x needs_toptop) (gives (moved old top toptop x cur needs_top needs_toptop)) (refuses 11 (pos 0 ∷ []))
 
--- ---- the answer in the paper's terms, and determinacy of both promises
+-- ---- determinacy of both promises
 
-abbrev pub said : Neighbourhood → Outcome PredictionData
-said (Is seven) = gives seven
-said (Refused refusal) = paper refusal
-
-abbrev unsaid : Outcome PredictionData → Neighbourhood
-unsaid (gives seven) = Is seven
-unsaid (refuses n ds) = Refused (read_back n ds)
-
-said_again : (r : Neighbourhood) → unsaid (said r) ≡ r
-said_again (Is seven) = refl
-said_again (Refused refusal) = ap Refused (reads_back refusal)
-
-pub neighbourhood_determined : {v : Outcome PredictionData} (r s : Neighbourhood) → said r ≡ v → said s ≡ v → r ≡ s
-neighbourhood_determined r s p q = one_answer said unsaid said_again r s p q
+pub neighbourhood_determined : {v : Outcome PredictionData} (r s : Result PredictionData Refusal) → said r ≡ v → said s ≡ v → r ≡ s
+neighbourhood_determined r s p q = one_result r s p q

@@ -1,10 +1,9 @@
 -- Module 3 of document 01: the fourteen predictors by number, and the guess of each.
-use Rattle.std.specs.Prelude.{List, [], ◌∷◌, map, ℕ, ℤ, pos, ◌+ℤ◌, ◌-ℤ◌, ◌*ℤ◌, get_or}
+use Rattle.std.specs.Prelude.{List, [], ◌∷◌, map, ℕ, ℤ, pos, ◌+ℤ◌, ◌-ℤ◌, ◌*ℤ◌, get_or, Result, Ok, Err}
 use Rattle.std.specs.Int.Signed.{lt_z, quot_z}
 use Rattle.integer.specs.Order.{if, smaller, larger, magnitude}
 use Rattle.predict.specs.declared.neighbours.PredictionData.{PredictionData}
-use Rattle.predict.specs.declared.predictors.Numbered.{Numbered}
-use Rattle.predict.specs.declared.predictors.Numbered.TheVariants.{Is, NoSuch}
+use Rattle.predict.specs.declared.predictors.NoSuchPredictor.{NoSuchPredictor}
 use Rattle.predict.specs.declared.predictors.Predictor.{Predictor}
 use Rattle.predict.specs.declared.predictors.Predictor.TheVariants.{
   Zero,
@@ -29,9 +28,12 @@ predictors =
     Zero ∷ West ∷ North ∷ AverageWestAndNorth ∷ Select ∷ Gradient ∷ Weighted ∷ NorthEast ∷ NorthWest ∷ WestWest
     ∷ AverageWestAndNorthWest ∷ AverageNorthAndNorthWest ∷ AverageNorthAndNorthEast ∷ AverageAll ∷ []
 
+abbrev pub no_such : ℕ → NoSuchPredictor
+no_such n = record { 0 = n }
+
 -- the predictor of a number; from 14 on there is none
-abbrev pub numbered : ℕ → Numbered
-numbered n = get_or (map Is predictors) n NoSuch
+abbrev pub numbered : ℕ → Result Predictor NoSuchPredictor
+numbered n = get_or (map Ok predictors) n (Err (no_such n))
 
 -- left only if |top - topleft| < |left - topleft|, so ties give top
 abbrev pub selected : ℤ → ℤ → ℤ → ℤ

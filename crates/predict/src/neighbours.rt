@@ -10,13 +10,14 @@ ghost use Rattle.predict.specs.Neighbours.{
   present,
   neighbours,
   shortcut,
-  said,
+  interior,
 };
+ghost use Rattle.refusal.specs.Paper.{said};
 
 use refusal::Refusal;
 
 // In the order of the Rust; the standard's names are W, N, NN, NW, NE, WW, NEE.
-#[derive(Clone, Copy)]
+#[derive(Clone, Copy, Debug, PartialEq, Eq)]
 pub struct PredictionData {
     pub left: i32,
     pub top: i32,
@@ -25,12 +26,6 @@ pub struct PredictionData {
     pub topright: i32,
     pub leftleft: i32,
     pub toprightright: i32,
-}
-
-#[derive(Clone, Copy)]
-pub enum Neighbourhood {
-    Is(PredictionData),
-    Refused(Refusal),
 }
 
 // Cell k of a row, or the fallback past its end. A row that is absent is an empty one.
@@ -95,25 +90,17 @@ pub fn in_domain(row: &[i32], row_top: &[i32], row_toptop: &[i32], x: usize, y: 
     ensures { result ≡ in_domain row.now row_top.now row_toptop.now x y }
 {
     let width = row.len();
-    if 65536 < width {
+    if 65536 < width || width <= x || 1073741824 <= y {
         return false;
     }
-    if width <= x {
-        return false;
-    }
-    if 1073741824 <= y {
-        return false;
-    }
+    // a return for each y: of one expression the compiler would leave the tests in a caller's loop
     if y == 0 {
         return true;
     }
     if row_top.len() != width {
         return false;
     }
-    if y == 1 {
-        return true;
-    }
-    row_toptop.len() == width
+    y == 1 || row_toptop.len() == width
 }
 
 // The neighbours of column x in row y, in the domain.
@@ -127,6 +114,7 @@ fn fetch(row: &[i32], row_top: &[i32], row_toptop: &[i32], x: usize, y: usize) -
     if y == 1 {
         return fetch_edge(row, row_top, &row_toptop[..0], x);
     }
+    // two tests, not one with `||`: so the compiled loop is the faster
     if x < 2 {
         return fetch_edge(row, row_top, row_toptop, x);
     }
@@ -143,13 +131,13 @@ pub fn get_rows(
     row_toptop: &[i32],
     x: usize,
     y: usize,
-) -> Neighbourhood
+) -> Result<PredictionData, Refusal>
     ensures { said result ≡ neighbours row.now row_top.now row_toptop.now x y }
 {
     if in_domain(row, row_top, row_toptop, x, y) {
-        Neighbourhood::Is(fetch(row, row_top, row_toptop, x, y))
+        Ok(fetch(row, row_top, row_toptop, x, y))
     } else {
-        Neighbourhood::Refused(Refusal::WrongSize)
+        Err(Refusal::WrongSize)
     }
 }
 
@@ -158,6 +146,18 @@ fn cell_needed(row: &[i32], k: usize, needs: bool) -> i32
     ensures { result ≡ needed row.now k needs }
 {
     if needs { cell_or(row, k, 0) } else { 0 }
+}
+
+// Whether x lies away from the ends of the row above and, where the row two up is needed, inside that.
+fn is_interior(row_top: &[i32], row_toptop: &[i32], x: usize, needs_toptop: bool) -> bool
+    ensures { result ≡ interior row_top.now row_toptop.now x needs_toptop }
+{
+    let width = row_top.len();
+    2 <= x
+        && width <= 65536
+        && x < width
+        && x + 2 < width
+        && (!needs_toptop || row_toptop.len() <= 65536 && x < row_toptop.len())
 }
 
 impl PredictionData {
@@ -170,33 +170,15 @@ impl PredictionData {
         cur: i32,
         needs_top: bool,
         needs_toptop: bool,
-    ) -> Neighbourhood
+    ) -> Result<PredictionData, Refusal>
         ensures { said result ≡ shortcut self row_top.now row_toptop.now x cur needs_top needs_toptop }
     {
-        let width = row_top.len();
-        if x < 2 {
-            return Neighbourhood::Refused(Refusal::WrongSize);
-        }
-        if 65536 < width {
-            return Neighbourhood::Refused(Refusal::WrongSize);
-        }
-        if width <= x {
-            return Neighbourhood::Refused(Refusal::WrongSize);
-        }
-        if width <= x + 2 {
-            return Neighbourhood::Refused(Refusal::WrongSize);
-        }
-        if needs_toptop {
-            if 65536 < row_toptop.len() {
-                return Neighbourhood::Refused(Refusal::WrongSize);
-            }
-            if row_toptop.len() <= x {
-                return Neighbourhood::Refused(Refusal::WrongSize);
-            }
+        if !is_interior(row_top, row_toptop, x, needs_toptop) {
+            return Err(Refusal::WrongSize);
         }
         let toptop = cell_needed(row_toptop, x, needs_toptop);
         let toprightright = cell_needed(row_top, x + 2, needs_top);
-        Neighbourhood::Is(PredictionData {
+        Ok(PredictionData {
             left: cur,
             top: self.topright,
             toptop,

@@ -5,9 +5,8 @@ ghost use Rattle.integer.specs.Order.{magnitude};
 ghost use Rattle.predict.specs.Predictors.{numbered, selected, gradient, average_all, guess};
 
 use crate::neighbours::PredictionData;
-use integer::widen;
 
-#[derive(Clone, Copy)]
+#[derive(Clone, Copy, Debug, PartialEq, Eq)]
 pub enum Predictor {
     Zero,
     West,
@@ -25,25 +24,22 @@ pub enum Predictor {
     AverageAll,
 }
 
-#[derive(Clone, Copy)]
-pub enum Numbered {
-    Is(Predictor),
-    NoSuch,
-}
+// A number that is no predictor's.
+#[derive(Clone, Copy, Debug, PartialEq, Eq)]
+pub struct NoSuchPredictor(pub u32);
 
 // (a + b) / 2 toward zero.
 fn average(a: i32, b: i32) -> i64
     ensures { result ≡ quot_z (a +ℤ b) (pos 2) }
 {
-    (widen(a) + widen(b)) / 2
+    (a as i64 + b as i64) / 2
 }
 
 // |a - b|
 fn distance(a: i32, b: i32) -> i64
     ensures { result ≡ magnitude (a -ℤ b) }
 {
-    let apart = widen(a) - widen(b);
-    if apart < 0 { 0 - apart } else { apart }
+    (a as i64 - b as i64).abs()
 }
 
 // Left where it is the nearer to left + top - topleft, else top.
@@ -51,9 +47,9 @@ fn select(left: i32, top: i32, topleft: i32) -> i64
     ensures { result ≡ selected left top topleft }
 {
     if distance(top, topleft) < distance(left, topleft) {
-        widen(left)
+        left as i64
     } else {
-        widen(top)
+        top as i64
     }
 }
 
@@ -61,66 +57,70 @@ fn select(left: i32, top: i32, topleft: i32) -> i64
 fn clamped_gradient(left: i32, top: i32, topleft: i32) -> i64
     ensures { result ≡ gradient left top topleft }
 {
-    let l = widen(left);
-    let t = widen(top);
-    let corner = widen(topleft);
-    let least = integer::min(l, t);
-    let most = integer::max(l, t);
-    integer::max(least, integer::min(most, l + t - corner))
+    let l = left as i64;
+    let t = top as i64;
+    let corner = topleft as i64;
+    let least = t.min(l);
+    let most = t.max(l);
+    (l + t - corner).min(most).max(least)
 }
 
 // The weighted sum of six neighbours, / 16 toward zero.
 fn average_all(data: PredictionData) -> i64
     ensures { result ≡ average_all «data» }
 {
-    let top = widen(data.top);
-    let toptop = widen(data.toptop);
-    let left = widen(data.left);
-    let leftleft = widen(data.leftleft);
-    let toprightright = widen(data.toprightright);
-    let topright = widen(data.topright);
+    let top = data.top as i64;
+    let toptop = data.toptop as i64;
+    let left = data.left as i64;
+    let leftleft = data.leftleft as i64;
+    let toprightright = data.toprightright as i64;
+    let topright = data.topright as i64;
     (6 * top - 2 * toptop + 7 * left + leftleft + toprightright + 3 * topright + 8) / 16
 }
 
-impl Predictor {
-    // The predictor of this number, 0..13.
-    pub fn try_from(value: u32) -> Numbered
-        ensures { result ≡ numbered value }
-    {
+// The predictor of a number, 0..13.
+impl TryFrom<u32> for Predictor {
+    type Error = NoSuchPredictor;
+
+    ghost try_from_gives = { λ value result. result ≡ numbered value };
+
+    fn try_from(value: u32) -> Result<Self, NoSuchPredictor> {
         match value {
-            0 => Numbered::Is(Predictor::Zero),
-            1 => Numbered::Is(Predictor::West),
-            2 => Numbered::Is(Predictor::North),
-            3 => Numbered::Is(Predictor::AverageWestAndNorth),
-            4 => Numbered::Is(Predictor::Select),
-            5 => Numbered::Is(Predictor::Gradient),
-            6 => Numbered::Is(Predictor::Weighted),
-            7 => Numbered::Is(Predictor::NorthEast),
-            8 => Numbered::Is(Predictor::NorthWest),
-            9 => Numbered::Is(Predictor::WestWest),
-            10 => Numbered::Is(Predictor::AverageWestAndNorthWest),
-            11 => Numbered::Is(Predictor::AverageNorthAndNorthWest),
-            12 => Numbered::Is(Predictor::AverageNorthAndNorthEast),
-            13 => Numbered::Is(Predictor::AverageAll),
-            _ => Numbered::NoSuch,
+            0 => Ok(Predictor::Zero),
+            1 => Ok(Predictor::West),
+            2 => Ok(Predictor::North),
+            3 => Ok(Predictor::AverageWestAndNorth),
+            4 => Ok(Predictor::Select),
+            5 => Ok(Predictor::Gradient),
+            6 => Ok(Predictor::Weighted),
+            7 => Ok(Predictor::NorthEast),
+            8 => Ok(Predictor::NorthWest),
+            9 => Ok(Predictor::WestWest),
+            10 => Ok(Predictor::AverageWestAndNorthWest),
+            11 => Ok(Predictor::AverageNorthAndNorthWest),
+            12 => Ok(Predictor::AverageNorthAndNorthEast),
+            13 => Ok(Predictor::AverageAll),
+            _ => Err(NoSuchPredictor(value)),
         }
     }
+}
 
+impl Predictor {
     // The guess for a pixel with these neighbours; wp_pred is the weighted predictor's.
     pub fn predict_one(self, data: PredictionData, wp_pred: i64) -> i64
         ensures { result ≡ guess self «data» wp_pred }
     {
         match self {
             Predictor::Zero => 0,
-            Predictor::West => widen(data.left),
-            Predictor::North => widen(data.top),
+            Predictor::West => data.left as i64,
+            Predictor::North => data.top as i64,
             Predictor::AverageWestAndNorth => average(data.top, data.left),
             Predictor::Select => select(data.left, data.top, data.topleft),
             Predictor::Gradient => clamped_gradient(data.left, data.top, data.topleft),
             Predictor::Weighted => wp_pred,
-            Predictor::NorthEast => widen(data.topright),
-            Predictor::NorthWest => widen(data.topleft),
-            Predictor::WestWest => widen(data.leftleft),
+            Predictor::NorthEast => data.topright as i64,
+            Predictor::NorthWest => data.topleft as i64,
+            Predictor::WestWest => data.leftleft as i64,
             Predictor::AverageWestAndNorthWest => average(data.left, data.topleft),
             Predictor::AverageNorthAndNorthWest => average(data.top, data.topleft),
             Predictor::AverageNorthAndNorthEast => average(data.top, data.topright),

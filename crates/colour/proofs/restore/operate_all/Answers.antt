@@ -1,14 +1,6 @@
--- `operate_all` meets its contract: each number has its arm, and operation 0 leaves every word as it is.
-use mathlib.Core.Path.{◌≡◌}
-use native.Mathlib.Omega.{arith}
-use Prim.Native.Nat.{ℕ, ◌≤◌, zero-le}
-use Rattle.integer.proofs.Tests.{past}
+-- `operate_all` meets its contract: operation 0 leaves every word as it is, and operation 1 is 2 with two planes exchanged.
 use Rattle.colour.proofs.Planes.{untouched}
 use Rattle.colour.proofs.restore.operate_all.Goals as goal
-
--- what is left at most at 6 is 6
-last : {n : ℕ} → (n ≡ 0 → ⊥) → (n ≡ 1 → ⊥) → (n ≡ 2 → ⊥) → (n ≡ 3 → ⊥) → (n ≡ 4 → ⊥) → (n ≡ 5 → ⊥) → n ≤ 6 → n ≡ 6
-last n0 n1 n2 n3 n4 n5 h = omega (arith, past (past (past (past (past (past zero-le n0) n1) n2) n3) n4) n5)
 
 pub returns-in-0 : goal.returns-in-0
 returns-in-0 c =

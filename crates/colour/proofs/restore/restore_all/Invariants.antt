@@ -1,17 +1,11 @@
 -- `restore_all` meets its contract. The loop's invariant: i triples are restored in all three planes, the rest are as they were.
-use lib.ListN.{length}
 use mathlib.Core.Path.{◌≡◌}
-use Prim.Native.Nat.{◌≤◌, ◌-◌}
 use Rattle.integer.specs.Fill.{filled}
 use Rattle.colour.specs.Restore.{restored, first, second, third}
 use Rattle.colour.proofs.restore.restore_all.Given as goal
 
 abbrev pub invariant-loop-i : goal.invariant-loop-i
 invariant-loop-i l =
-    (l.i ≤ l.n) × (l.n ≡ length l.initial.a) × (l.n ≡ length l.initial.b) × (l.n ≡ length l.initial.c)
-    × (l.a ≡ filled (restored first l.operation l.order l.initial.a l.initial.b l.initial.c) l.i l.initial.a)
+    (l.a ≡ filled (restored first l.operation l.order l.initial.a l.initial.b l.initial.c) l.i l.initial.a)
     × (l.b ≡ filled (restored second l.operation l.order l.initial.a l.initial.b l.initial.c) l.i l.initial.b)
     × (l.c ≡ filled (restored third l.operation l.order l.initial.a l.initial.b l.initial.c) l.i l.initial.c)
-
-abbrev pub decreases-loop-i : goal.decreases-loop-i
-decreases-loop-i l = l.n - l.i

@@ -1,11 +1,10 @@
--- `has_row` meets its contract: each test decides one part.
-use borrow.Author.Tests.{lt-ltb, le-leb, eq-eqb}
-use native.Mathlib.Omega.{arith}
-use Prim.Native.Nat.{◌≤◌}
+-- `has_row` meets its contract: the last test is by the row's begin.
+use Rattle.std.proofs.Common.{arith, ◌≡◌, ◌≤◌, ◌%◌}
 use Rattle.colour.proofs.RowWithin.{by_begin}
 use Rattle.colour.proofs.rows.has_row.Goals as goal
 
-pub returns : goal.returns
-returns c =
-    let one : 1 ≤ c.args.width = omega (arith, c.if-width-eq0.false) in
-    simp (le-leb _ _ one, le-leb _ _ c.if-width-gt65536.false, eq-eqb _ _ c.if-length-width-ne0.false, lt-ltb _ _ c.if-y-ge1073741824.false, by_begin c.args.length c.args.width c.args.y one c.if-length-width-ne0.false)
+pub returns-then-y-lt1073741824 : goal.returns-then-y-lt1073741824
+returns-then-y-lt1073741824 c =
+    let one : 1 ≤ c.args.width = grind arith in
+    let whole : c.args.length % c.args.width ≡ 0 = grind arith in
+    search (arith, by_begin c.args.length c.args.width c.args.y one whole)
