@@ -64,6 +64,8 @@ module _ (w : Four) (light : Light w) where
       let high : w.e0 + w.e1 + w.e2 + w.e3 < 32 * k = omega (arith, unit, pow-suc 2 (floor_log2 (total w)), around) in
       (quotients_least _ _ _ _ k (pow_pos (floor_log2 (total w) - 4)) low high, quotients_most _ _ _ _ k (pow_pos (floor_log2 (total w) - 4)) low high)
 
+pub ruleset log_bounds = (log_least, log_most)
+
 -- the table's entry for a sum in that range, at most that for 13
 module _ (s : ℕ) (low : 13 ≤ s) (high : s ≤ 31) where
   pub in_table : entry_at (s - 1) ≡ entry (s - 1)
@@ -76,42 +78,27 @@ module _ (s : ℕ) (low : 13 ≤ s) (high : s ≤ 31) where
       let thirteen : 2 ^ 24 / s * 13 ≤ 2 ^ 24 / s * s = mul-le-mul (le_refl (2 ^ 24 / s)) low in
       rw one (omega (arith, all, thirteen))
 
--- The accumulator, sum by sum: bounded by the weights' total, not by each weight on its own.
+-- The accumulator: bounded by the weights' total, not by each weight on its own.
 module _ (w : Four) (high : total w ≤ 31) (p0 p1 p2 p3 : ℤ) (small : Small p0 p1 p2 p3) where
+  unfoldable sum : ℤ
+  sum = pos (total w / 2 - 1) +ℤ p0 *ℤ pos w.e0 +ℤ p1 *ℤ pos w.e1 +ℤ p2 *ℤ pos w.e2 +ℤ p3 *ℤ pos w.e3
+
   part : (q : ℕ) (p : ℤ) → mag p < 2 ^ 37 → Below (2 ^ 37 * q + 1) (p *ℤ pos q)
   part q p h = by_factor q {x = p} (le_refl q) (record { size = h })
-
-  pub part_below : (q : ℕ) (p : ℤ) → q ≤ 31 → mag p < 2 ^ 37 → Below (2 ^ 43) (p *ℤ pos q)
-  part_below q p f h = at_most (omega (arith, f)) (part q p h)
 
   start : Below 16 (pos (total w / 2 - 1))
   start = record { size = omega (arith, high) }
 
-  first : Below (16 + (2 ^ 37 * w.e0 + 1)) (pos (total w / 2 - 1) +ℤ p0 *ℤ pos w.e0)
-  first = plus start (part w.e0 p0 small.small0)
-
-  second : Below (16 + (2 ^ 37 * w.e0 + 1) + (2 ^ 37 * w.e1 + 1)) (pos (total w / 2 - 1) +ℤ p0 *ℤ pos w.e0 +ℤ p1 *ℤ pos w.e1)
-  second = plus first (part w.e1 p1 small.small1)
-
-  third : Below (16 + (2 ^ 37 * w.e0 + 1) + (2 ^ 37 * w.e1 + 1) + (2 ^ 37 * w.e2 + 1)) (pos (total w / 2 - 1) +ℤ p0 *ℤ pos w.e0 +ℤ p1 *ℤ pos w.e1 +ℤ p2 *ℤ pos w.e2)
-  third = plus second (part w.e2 p2 small.small2)
-
-  pub first_below : Below (2 ^ 37 * 31 + 20) (pos (total w / 2 - 1) +ℤ p0 *ℤ pos w.e0)
-  first_below = at_most (omega (arith, high)) first
-
-  pub second_below : Below (2 ^ 37 * 31 + 20) (pos (total w / 2 - 1) +ℤ p0 *ℤ pos w.e0 +ℤ p1 *ℤ pos w.e1)
-  second_below = at_most (omega (arith, high)) second
-
-  pub third_below : Below (2 ^ 37 * 31 + 20) (pos (total w / 2 - 1) +ℤ p0 *ℤ pos w.e0 +ℤ p1 *ℤ pos w.e1 +ℤ p2 *ℤ pos w.e2)
-  third_below = at_most (omega (arith, high)) third
-
-  pub sum_below : Below (2 ^ 37 * 31 + 20) (pos (total w / 2 - 1) +ℤ p0 *ℤ pos w.e0 +ℤ p1 *ℤ pos w.e1 +ℤ p2 *ℤ pos w.e2 +ℤ p3 *ℤ pos w.e3)
-  sum_below = at_most (omega (arith, high)) (plus third (part w.e3 p3 small.small3))
+  sum_below : Below (2 ^ 37 * 31 + 20) sum
+  unfolding sum
+  sum_below = at_most (omega (arith, high)) (plus (plus (plus (plus start (part w.e0 p0 small.small0)) (part w.e1 p1 small.small1)) (part w.e2 p2 small.small2)) (part w.e3 p3 small.small3))
 
   -- "none can wrap": the product is below 2^63
   pub product_below : 13 ≤ total w
       → Below (2 ^ 63) ((pos (total w / 2 - 1) +ℤ p0 *ℤ pos w.e0 +ℤ p1 *ℤ pos w.e1 +ℤ p2 *ℤ pos w.e2 +ℤ p3 *ℤ pos w.e3) *ℤ pos (entry (total w - 1)))
+  unfolding sum
   product_below low = looser tt (by_factor 1290555 (entry_small (total w) low high) sum_below)
 
   pub average_below : 13 ≤ total w → Below (2 ^ 39) (average_by w p0 p1 p2 p3)
+  unfolding sum
   average_below low = looser tt (shifted_down (2 ^ 24) (by_factor 1290555 (entry_small (total w) low high) sum_below))

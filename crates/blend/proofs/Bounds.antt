@@ -1,14 +1,11 @@
 -- What 32-bit neighbours and errors and a header in range lead to: no sub-prediction, average or prediction comes near 2^40.
 use borrow.Author.Tests.{lt-ltb}
-use Prim.Native.Nat.{ℕ, ◌+◌, ◌-◌, ◌*◌, ◌/◌, ◌%◌, ◌^◌, ◌≤◌, ◌<◌}
+use Prim.Native.Nat.{ℕ, ◌+◌, ◌-◌, ◌*◌, ◌/◌, ◌%◌, ◌^◌, ◌≤◌}
 use lib.Dec.{ltb}
 use lib.IntN.{ℤ, pos, ◌+ℤ◌, ◌-ℤ◌, ◌*ℤ◌}
 use lib.Signed.{mag, shr_z}
 use mathlib.Core.Bool.{Bool, true, false}
 use mathlib.Core.Path.{◌≡◌}
-use mir.Facts.{to_z_pos}
-use mir.Syntax.{w64}
-use mir.Val.{to_z}
 use native.Mathlib.Nat.{div-le_self, mul-le-mul}
 use native.Mathlib.Omega.{arith}
 use Rattle.arith.proofs.Table.{entry_bound}
@@ -23,10 +20,6 @@ use Rattle.blend.specs.declared.WeightedHeader.{WeightedHeader}
 use Rattle.blend.specs.Blend.{eighths, share, weighed_errors, weighed_steps, sub0, sub1, sub2, sub3, weights_for, Light, Small, normalised, agree, clamped_to, average, pred_of, found, within, possible}
 use Rattle.blend.proofs.Average.{weight_sum_range, average_below}
 use Rattle.blend.proofs.Range.{Ranges}
-
--- a factor of 0..31, as 64 bits hold it
-pub factor_held : {factor : ℕ} → factor ≤ 31 → to_z w64 factor ≡ pos factor
-factor_held {factor} f = let low : factor < 2 ^ 63 = omega (arith, f) in to_z_pos w64 low
 
 pub eighths_below : {v : ℤ} → Below (2 ^ 31) v → Below (2 ^ 34) (eighths v)
 eighths_below h = scaled 7 h

@@ -1,3 +1,4 @@
 pub mod Average
 pub mod Bounds
 pub mod Range
+pub mod Sizes

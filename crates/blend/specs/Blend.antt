@@ -1,23 +1,19 @@
 -- Module 4 of document 01, one pixel: the header's ranges, the four sub-predictions, their weights and their average, when it is
 -- clamped, the property, and the errors that the true value leaves. Numbers are in eighths where the Rust adds three bits.
-use Rattle.std.specs.Prelude.{Bool, ◌&&◌, ◌||◌, not, [], ◌∷◌, ◌≡◌, refl, ℕ, ◌+◌, ◌-◌, ◌*◌, ◌/◌, ◌^◌, ◌≤◌, ◌<◌, leb, ltb, ℤ, pos, ◌+ℤ◌, ◌-ℤ◌, ◌*ℤ◌}
-use Rattle.std.proofs.Common.{ap}
+use Rattle.std.specs.Prelude.{Bool, ◌&&◌, ◌||◌, not, [], ◌∷◌, ◌≡◌, ℕ, ◌+◌, ◌-◌, ◌*◌, ◌/◌, ◌^◌, ◌≤◌, ◌<◌, leb, ltb, ℤ, pos, ◌+ℤ◌, ◌-ℤ◌, ◌*ℤ◌, Result}
 use Rattle.std.specs.Int.Signed.{mag, lt_z, shr_z}
 use Rattle.arith.specs.Weights.{entry, floor_log2, weights_of}
 use Rattle.integer.specs.Order.{if, smaller, larger, magnitude}
 use Rattle.integer.specs.Word.{wrap, bits_of}
 use Rattle.predict.specs.declared.neighbours.PredictionData.{PredictionData}
-use Rattle.refusal.specs.Paper.{Outcome, gives, refuses, paper, read_back, reads_back, one_answer}
+use Rattle.refusal.specs.Paper.{Outcome, gives, refuses, said, one_result}
+use Rattle.refusal.specs.declared.Refusal.{Refusal}
 use Rattle.blend.specs.declared.WeightedHeader.{WeightedHeader}
 use Rattle.blend.specs.declared.TrueErrors.{TrueErrors}
 use Rattle.arith.specs.declared.Four.{Four}
 use Rattle.blend.specs.declared.Found.{Found}
 use Rattle.blend.specs.declared.Prediction.{Prediction}
-use Rattle.blend.specs.declared.Predicted.{Predicted}
-use Rattle.blend.specs.declared.Predicted.TheVariants as predicted
 use Rattle.blend.specs.declared.PixelErrors.{PixelErrors}
-use Rattle.blend.specs.declared.Left.{Left}
-use Rattle.blend.specs.declared.Left.TheVariants as left
 
 -- ---- the header
 
@@ -172,34 +168,10 @@ possible f = within f.p0 && within f.p1 && within f.p2 && within f.p3 && within 
 abbrev pub leaves : Found → ℤ → Outcome PixelErrors
 leaves f v = if (possible f) (gives (errors_of f v)) (refuses 13 (pos 0 ∷ []))
 
--- ---- the answers in the paper's terms, and determinacy
+-- ---- determinacy
 
-abbrev pub said : Predicted → Outcome Prediction
-said (predicted.Is p) = gives p
-said (predicted.Refused refusal) = paper refusal
+pub prediction_determined : {v : Outcome Prediction} (r s : Result Prediction Refusal) → said r ≡ v → said s ≡ v → r ≡ s
+prediction_determined r s p q = one_result r s p q
 
-abbrev unsaid : Outcome Prediction → Predicted
-unsaid (gives p) = predicted.Is p
-unsaid (refuses n ds) = predicted.Refused (read_back n ds)
-
-said_again : (r : Predicted) → unsaid (said r) ≡ r
-said_again (predicted.Is p) = refl
-said_again (predicted.Refused refusal) = ap predicted.Refused (reads_back refusal)
-
-pub prediction_determined : {v : Outcome Prediction} (r s : Predicted) → said r ≡ v → said s ≡ v → r ≡ s
-prediction_determined r s p q = one_answer said unsaid said_again r s p q
-
-abbrev pub said_left : Left → Outcome PixelErrors
-said_left (left.Is errors) = gives errors
-said_left (left.Refused refusal) = paper refusal
-
-abbrev unsaid_left : Outcome PixelErrors → Left
-unsaid_left (gives errors) = left.Is errors
-unsaid_left (refuses n ds) = left.Refused (read_back n ds)
-
-said_left_again : (r : Left) → unsaid_left (said_left r) ≡ r
-said_left_again (left.Is errors) = refl
-said_left_again (left.Refused refusal) = ap left.Refused (reads_back refusal)
-
-pub left_determined : {v : Outcome PixelErrors} (r s : Left) → said_left r ≡ v → said_left s ≡ v → r ≡ s
-left_determined r s p q = one_answer said_left unsaid_left said_left_again r s p q
+pub left_determined : {v : Outcome PixelErrors} (r s : Result PixelErrors Refusal) → said r ≡ v → said s ≡ v → r ≡ s
+left_determined r s p q = one_result r s p q

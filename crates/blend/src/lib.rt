@@ -2,25 +2,14 @@
 // pixel's true value leaves. Predictions and true errors are in eighths. The crate `weighted` has the place and the memory.
 #![tactic(auto)]
 
-ghost use Rattle.std.specs.Prelude.{◌≡◌, true, ◌≤◌, ◌<◌, ◌^◌, ◌+ℤ◌, ◌-ℤ◌};
+mod averaging;
+mod sub_predictions;
+
+ghost use Rattle.std.specs.Prelude.{◌≡◌, true, ◌<◌, ◌^◌};
 ghost use Rattle.std.specs.Int.Signed.{mag};
-ghost use Rattle.integer.specs.Order.{magnitude};
 ghost use Rattle.blend.specs.Blend.{
   in_range,
   defaults,
-  eighths,
-  share,
-  weighed_errors,
-  weighed_steps,
-  sub3,
-  weights_for,
-  Light,
-  Small,
-  total,
-  average_by,
-  normalised,
-  agree,
-  clamped_to,
   farther,
   property_of,
   found,
@@ -28,18 +17,20 @@ ghost use Rattle.blend.specs.Blend.{
   sub_error,
   within,
   possible,
+  errors_of,
   leaves,
-  said,
-  said_left,
 };
+ghost use Rattle.refusal.specs.Paper.{said};
 
-use arith::{Four, Weights, division_entry, error_weights, floor_log2_nonzero};
-use integer::{low_word, max, min, to_bits, widen};
+use crate::averaging::{normalise, settled, weighted_average, weights};
+use crate::sub_predictions::{add_bits, corrected, gradient, weighed};
+use arith::Four;
+use integer::low_word;
 use predict::neighbours::PredictionData;
 use refusal::Refusal;
 
 // The eleven values of the weighted header: p1c to p3ce are 0..31, w0 to w3 0..15.
-#[derive(Clone, Copy)]
+#[derive(Clone, Copy, Debug, PartialEq, Eq)]
 pub struct WeightedHeader {
     pub p1c: u32,
     pub p2c: u32,
@@ -55,7 +46,7 @@ pub struct WeightedHeader {
 }
 
 // The true errors of four neighbours: prediction less value, in eighths.
-#[derive(Clone, Copy)]
+#[derive(Clone, Copy, Debug, PartialEq, Eq)]
 pub struct TrueErrors {
     pub w: i32,
     pub n: i32,
@@ -64,7 +55,7 @@ pub struct TrueErrors {
 }
 
 // The four sub-predictions and what they blend to, in eighths.
-#[derive(Clone, Copy)]
+#[derive(Clone, Copy, Debug, PartialEq, Eq)]
 pub struct Found {
     pub p0: i64,
     pub p1: i64,
@@ -73,36 +64,24 @@ pub struct Found {
     pub pred: i64,
 }
 
-#[derive(Clone, Copy)]
+#[derive(Clone, Copy, Debug, PartialEq, Eq)]
 pub struct Prediction {
     pub found: Found,
     pub guess: i64,
     pub property: i32,
 }
 
-#[derive(Clone, Copy)]
-pub enum Predicted {
-    Is(Prediction),
-    Refused(Refusal),
-}
-
 // What a pixel's true value leaves: its true error, and the error of each sub-prediction.
-#[derive(Clone, Copy)]
+#[derive(Clone, Copy, Debug, PartialEq, Eq)]
 pub struct PixelErrors {
     pub error: i32,
     pub sub: Four,
 }
 
-#[derive(Clone, Copy)]
-pub enum Left {
-    Is(PixelErrors),
-    Refused(Refusal),
-}
+impl Default for WeightedHeader {
+    ghost is_default = { λ header. header ≡ defaults };
 
-impl WeightedHeader {
-    pub fn default() -> WeightedHeader
-        ensures { result ≡ defaults }
-    {
+    fn default() -> WeightedHeader {
         WeightedHeader {
             p1c: 16,
             p2c: 10,
@@ -117,198 +96,33 @@ impl WeightedHeader {
             w3: 12,
         }
     }
+}
 
+impl WeightedHeader {
     // Whether each value is in its range.
+    #[tactic(auto, unfolding(crate::specs::Blend::in_range))]
     pub fn in_range(self) -> bool
         ensures { result ≡ in_range self }
     {
-        if 31 < self.p1c {
-            return false;
-        }
-        if 31 < self.p2c {
-            return false;
-        }
-        if 31 < self.p3ca {
-            return false;
-        }
-        if 31 < self.p3cb {
-            return false;
-        }
-        if 31 < self.p3cc {
-            return false;
-        }
-        if 31 < self.p3cd {
-            return false;
-        }
-        if 31 < self.p3ce {
-            return false;
-        }
-        if 15 < self.w0 {
-            return false;
-        }
-        if 15 < self.w1 {
-            return false;
-        }
-        if 15 < self.w2 {
-            return false;
-        }
-        self.w3 <= 15
+        self.p1c <= 31
+            && self.p2c <= 31
+            && self.p3ca <= 31
+            && self.p3cb <= 31
+            && self.p3cc <= 31
+            && self.p3cd <= 31
+            && self.p3ce <= 31
+            && self.w0 <= 15
+            && self.w1 <= 15
+            && self.w2 <= 15
+            && self.w3 <= 15
     }
 }
 
-// A value in eighths.
-fn add_bits(x: i32) -> i64
-    ensures { result ≡ eighths x }
-{
-    8 * widen(x)
-}
-
-// W + NE - N.
-fn gradient(data: PredictionData) -> i64
-    ensures { result ≡ eighths «data».left +ℤ eighths «data».topright -ℤ eighths «data».top }
-{
-    let w = add_bits(data.left);
-    let ne = add_bits(data.topright);
-    let n = add_bits(data.top);
-    w + ne - n
-}
-
-// A value less its share of three errors.
-fn corrected(value: i32, a: i32, b: i32, c: i32, factor: u32) -> i64
-    requires { factor ≤ 31 }
-    ensures { result ≡ eighths value -ℤ share a b c factor }
-{
-    let first = widen(a);
-    let second = widen(b);
-    let third = widen(c);
-    add_bits(value) - (((first + second + third) * factor as i64) >> 5)
-}
-
-// Three errors, each times its factor.
-fn weighed_errors(errors: TrueErrors, a: u32, b: u32, c: u32) -> i64
-    requires { (a ≤ 31) × (b ≤ 31) × (c ≤ 31) }
-    ensures { (result ≡ weighed_errors errors a b c) × (mag result < 2 ^ 38) }
-{
-    let nw = widen(errors.nw);
-    let n = widen(errors.n);
-    let ne = widen(errors.ne);
-    nw * a as i64 + n * b as i64 + ne * c as i64
-}
-
-// The steps from N to NN and from W to NW, each times its factor.
-fn weighed_steps(data: PredictionData, a: u32, b: u32) -> i64
-    requires { (a ≤ 31) × (b ≤ 31) }
-    ensures { (result ≡ weighed_steps «data» a b) × (mag result < 2 ^ 41) }
-{
-    let n = add_bits(data.top);
-    let w = add_bits(data.left);
-    let nw = add_bits(data.topleft);
-    let nn = add_bits(data.toptop);
-    (nn - n) * a as i64 + (nw - w) * b as i64
-}
-
-// N less a share of the weighed errors and steps.
-fn weighed(header: WeightedHeader, data: PredictionData, errors: TrueErrors) -> i64
-    requires { in_range header ≡ true }
-    ensures { result ≡ sub3 header «data» errors }
-{
-    let n = add_bits(data.top);
-    let by_errors = weighed_errors(errors, header.p3ca, header.p3cb, header.p3cc);
-    let by_steps = weighed_steps(data, header.p3cd, header.p3ce);
-    n - ((by_errors + by_steps) >> 5)
-}
-
-// What the error sums leave of the header's w values.
-fn weights(header: WeightedHeader, sums: Four) -> Four
-    requires { in_range header ≡ true }
-    ensures { result ≡ weights_for header sums }
-{
-    let maxweights = Four {
-        e0: header.w0,
-        e1: header.w1,
-        e2: header.w2,
-        e3: header.w3,
-    };
-    let weighed = error_weights(sums, maxweights);
-    match weighed {
-        Weights::Are(weights) => weights,
-        Weights::Refused(_) => sums,
-    }
-}
-
-// The weights shifted so that they sum to 13..31.
-fn normalise(weights: Four) -> Four
-    requires { Light weights }
-    ensures { result ≡ normalised weights }
-{
-    let sum = weights.e0 + weights.e1 + weights.e2 + weights.e3;
-    let shift = floor_log2_nonzero(sum as u64) - 4;
-    Four {
-        e0: weights.e0 >> shift,
-        e1: weights.e1 >> shift,
-        e2: weights.e2 >> shift,
-        e3: weights.e3 >> shift,
-    }
-}
-
-// The average of the four sub-predictions by such weights.
-fn weighted_average(p0: i64, p1: i64, p2: i64, p3: i64, weights: Four) -> i64
-    requires { Small p0 p1 p2 p3 × (13 ≤ total weights) × (total weights ≤ 31) }
-    ensures { result ≡ average_by weights p0 p1 p2 p3 }
-{
-    let weight_sum = weights.e0 + weights.e1 + weights.e2 + weights.e3;
-    let entry = division_entry(weight_sum - 1);
-    let sum = (weight_sum / 2 - 1) as i64
-        + p0 * weights.e0 as i64
-        + p1 * weights.e1 as i64
-        + p2 * weights.e2 as i64
-        + p3 * weights.e3 as i64;
-    (sum * entry as i64) >> 24
-}
-
-// Whether the errors of N, W and NW have one sign and are not all equal.
-fn agreeing(errors: TrueErrors) -> bool
-    ensures { result ≡ agree errors }
-{
-    let n = widen(errors.n);
-    let w = widen(errors.w);
-    let nw = widen(errors.nw);
-    let least = min(n, min(w, nw));
-    let most = max(n, max(w, nw));
-    if least < most {
-        if least < 0 { most < 0 } else { true }
-    } else {
-        false
-    }
-}
-
-// Kept between the least and the most of N, W and NE.
-fn clamped(pred: i64, data: PredictionData) -> i64
-    ensures { result ≡ clamped_to «data» pred }
-{
-    let n = add_bits(data.top);
-    let w = add_bits(data.left);
-    let ne = add_bits(data.topright);
-    let most = max(w, max(ne, n));
-    let least = min(w, min(ne, n));
-    max(least, min(most, pred))
-}
-
-// How far from 0.
-fn distance(x: i64) -> i64
-    requires { mag x < 2 ^ 41 }
-    ensures { result ≡ magnitude x }
-{
-    if x < 0 { 0 - x } else { x }
-}
-
-// The second only if it lies farther from 0. In 64 bits: the magnitude of -2^31 is 2^31.
+// The second only if it lies farther from 0.
 fn farther_of(p: i32, q: i32) -> i32
     ensures { result ≡ farther p q }
 {
-    let wide_p = widen(p);
-    let wide_q = widen(q);
-    if distance(wide_p) < distance(wide_q) {
+    if p.unsigned_abs() < q.unsigned_abs() {
         q
     } else {
         p
@@ -325,31 +139,23 @@ fn property(errors: TrueErrors) -> i32
 }
 
 // The four sub-predictions and what they blend to.
+#[tactic(auto, using(crate::proofs::Range::ranges))]
 fn find(header: WeightedHeader, data: PredictionData, errors: TrueErrors, sums: Four) -> Found
     requires { in_range header ≡ true }
-    ensures { (result ≡ found header «data» errors sums) × (mag result.pred < 2 ^ 40) }
+    ensures found { result ≡ found header «data» errors sums }
+    ensures small { mag result.pred < 2 ^ 41 }
 {
     let p0 = gradient(data);
     let p1 = corrected(data.top, errors.n, errors.w, errors.ne, header.p1c);
     let p2 = corrected(data.left, errors.n, errors.w, errors.nw, header.p2c);
     let p3 = weighed(header, data, errors);
     let average = weighted_average(p0, p1, p2, p3, normalise(weights(header, sums)));
-    if agreeing(errors) {
-        Found {
-            p0,
-            p1,
-            p2,
-            p3,
-            pred: average,
-        }
-    } else {
-        Found {
-            p0,
-            p1,
-            p2,
-            p3,
-            pred: clamped(average, data),
-        }
+    Found {
+        p0,
+        p1,
+        p2,
+        p3,
+        pred: settled(average, data, errors),
     }
 }
 
@@ -359,76 +165,77 @@ pub fn predict_and_property(
     data: PredictionData,
     errors: TrueErrors,
     sums: Four,
-) -> Predicted
+) -> Result<Prediction, Refusal>
     ensures { said result ≡ prediction header «data» errors sums }
 {
-    if header.in_range() {
-        let found = find(header, data, errors, sums);
-        let guess = (found.pred + 3) >> 3;
-        let property = property(errors);
-        Predicted::Is(Prediction {
-            found,
-            guess,
-            property,
-        })
-    } else {
-        Predicted::Refused(Refusal::HeaderRange)
+    if !header.in_range() {
+        return Err(Refusal::HeaderRange);
     }
+    let found = find(header, data, errors, sums);
+    Ok(Prediction {
+        found,
+        guess: (found.pred + 3) >> 3,
+        property: property(errors),
+    })
 }
 
 fn is_within(z: i64) -> bool
     ensures { result ≡ within z }
 {
-    if z < -1099511627776 {
-        return false;
-    }
-    z < 1099511627776
+    -1099511627776 <= z && z < 1099511627776
 }
 
 impl Found {
     // Whether asking can have found these.
+    #[tactic(auto, using(crate::proofs::Sizes::back64), unfolding(crate::specs::Blend::possible))]
     pub fn possible(self) -> bool
         ensures { result ≡ possible self }
     {
-        if !is_within(self.p0) {
-            return false;
-        }
-        if !is_within(self.p1) {
-            return false;
-        }
-        if !is_within(self.p2) {
-            return false;
-        }
-        if !is_within(self.p3) {
-            return false;
-        }
-        is_within(self.pred)
+        is_within(self.p0)
+            && is_within(self.p1)
+            && is_within(self.p2)
+            && is_within(self.p3)
+            && is_within(self.pred)
     }
 }
 
 // How far a sub-prediction lay from the value, in whole units: the low 32 bits.
+#[tactic(auto, using(crate::proofs::Sizes::back64))]
 fn sub_error(p: i64, value: i32) -> u32
-    requires { within p ≡ true }
+    requires { mag p < 2 ^ 40 }
     ensures { result ≡ sub_error p value }
 {
-    let apart = distance(p - add_bits(value));
-    to_bits(low_word((apart + 3) >> 3))
+    let apart = (p - add_bits(value)).unsigned_abs();
+    (((apart + 3) >> 3) % 4294967296) as u32
 }
 
-// What the pixel's true value leaves; 13 for what no asking can have found.
-pub fn errors_of(found: Found, value: i32) -> Left
-    ensures { said_left result ≡ leaves found value }
+// What the pixel's true value leaves of what asking can have found.
+fn errors_from(found: Found, value: i32) -> PixelErrors
+    requires p0 { mag found.p0 < 2 ^ 40 }
+    requires p1 { mag found.p1 < 2 ^ 40 }
+    requires p2 { mag found.p2 < 2 ^ 40 }
+    requires p3 { mag found.p3 < 2 ^ 40 }
+    requires pred { mag found.pred < 2 ^ 40 }
+    ensures { result ≡ errors_of found value }
 {
-    if found.possible() {
-        let error = low_word(found.pred - add_bits(value));
-        let sub = Four {
+    PixelErrors {
+        error: low_word(found.pred - add_bits(value)),
+        sub: Four {
             e0: sub_error(found.p0, value),
             e1: sub_error(found.p1, value),
             e2: sub_error(found.p2, value),
             e3: sub_error(found.p3, value),
-        };
-        Left::Is(PixelErrors { error, sub })
-    } else {
-        Left::Refused(Refusal::OutOfTurn)
+        },
     }
+}
+
+// The same; 13 for what no asking can have found.
+#[tactic(auto, using(crate::proofs::Range::all_within))]
+pub fn errors_of(found: Found, value: i32) -> Result<PixelErrors, Refusal>
+    ensures { said result ≡ leaves found value }
+{
+    if !found.possible() {
+        return Err(Refusal::OutOfTurn);
+    }
+    Ok(errors_from(found, value))
 }

@@ -26,8 +26,7 @@ use Rattle.predict.specs.declared.neighbours.PredictionData.{PredictionData}
 use Rattle.refusal.specs.Paper.{gives}
 use Rattle.weighted.proofs.Allowed.{may}
 use Rattle.weighted.specs.Memory.{needed, previous, current, updated}
-use Rattle.weighted.specs.State.{is_width, at_start, nothing, opens, asks, puts, answered, onward}
-use Rattle.weighted.specs.declared.state.Answer.{Answer}
+use Rattle.weighted.specs.State.{Answered, is_width, at_start, nothing, opens, asks, puts, answered, onward}
 use Rattle.weighted.specs.declared.state.WeightedState.{WeightedState}
 use Rattle.history.specs.Calls.{Words, Before, one_pixel, calls}
 use Rattle.history.specs.Standard.{true_errors, err_sums, history, predicted}
@@ -36,7 +35,7 @@ use Rattle.history.proofs.Past.{history_words, errors_small}
 use Rattle.history.proofs.Reading.{errors_read_lem, sums_read_lem}
 
 -- a pixel that is answered and then put
-one_pixel_lem : (b : Before) (d : PredictionData) (v : ℤ) (a : Answer) → asks b.state b.memory d ≡ gives a → puts a.state b.memory ≡ gives (onward a.state)
+one_pixel_lem : (b : Before) (d : PredictionData) (v : ℤ) (a : Answered) → asks b.state b.memory d ≡ gives a → puts a.state b.memory ≡ gives (onward a.state)
     → one_pixel b d v ≡ record { state = onward a.state; memory = updated b.memory a.state.width a.state.x a.state.y (errors_of a.state.found v) }
 one_pixel_lem b d v a p q = rw (p, q)
 

@@ -1,14 +1,12 @@
 -- Module 4 of document 01, saving: the first half of the memory, its error row and then four sum rows.
-use Rattle.std.specs.Prelude.{Bool, ◌&&◌, not, List, ◌≡◌, refl, ℕ, ◌+◌, ◌*◌, ◌/◌, ◌%◌, ◌^◌, ltb, leb, eqb, length, get_or}
-use Rattle.std.proofs.Common.{ap}
+use Rattle.std.specs.Prelude.{Bool, ◌&&◌, not, List, ◌≡◌, ℕ, ◌+◌, ◌*◌, ◌/◌, ◌%◌, ◌^◌, ltb, leb, eqb, length, get_or, Result}
 use Rattle.blend.specs.Blend.{in_range}
 use Rattle.integer.specs.Fill.{filled}
-use Rattle.refusal.specs.Paper.{Outcome, gives, refuses, paper, read_back, reads_back, one_answer, one_value}
+use Rattle.refusal.specs.Paper.{Outcome, gives, refuses, said, one_result, one_value}
+use Rattle.refusal.specs.declared.Refusal.{Refusal}
 use Rattle.weighted.specs.Memory.{positions, needed}
 use Rattle.weighted.specs.State.{test, is_width}
 use Rattle.weighted.specs.declared.state.WeightedState.{WeightedState}
-use Rattle.weighted.specs.declared.saving.Copied.{Copied}
-use Rattle.weighted.specs.declared.saving.Copied.TheVariants as copied
 
 -- an error row and four sum rows
 abbrev pub saved_words : ℕ → ℕ
@@ -40,33 +38,25 @@ abbrev pub after_copy : (ℕ → ℕ) → ℕ → List ℕ → Outcome Unit → 
 after_copy rule n words (gives done) = filled rule n words
 after_copy rule n words (refuses number details) = words
 
-abbrev pub said_copied : Copied → Outcome Unit
-said_copied copied.Done = gives tt
-said_copied (copied.Refused refusal) = paper refusal
+module _ (s : WeightedState) (m saved : List ℕ) where
+  -- every word of the list, where the first half of the memory is saved
+  abbrev pub list_after : List ℕ
+  list_after = after_copy (saved_word m s.width) (saved_words s.width) saved (copies s (length m) (length saved))
 
-pub record Saves (s : WeightedState) (m saved : List ℕ) (r : Copied) (saved' : List ℕ) : Type 0 where
-  pub answers : said_copied r ≡ copies s (length m) (length saved)
-  pub holds : saved' ≡ after_copy (saved_word m s.width) (saved_words s.width) saved (copies s (length m) (length saved))
-
-pub record RestoresState (s : WeightedState) (m saved : List ℕ) (r : Copied) (m' : List ℕ) : Type 0 where
-  pub answers : said_copied r ≡ copies s (length m) (length saved)
-  pub holds : m' ≡ after_copy (restored_word saved s.width) (saved_words s.width) m (copies s (length m) (length saved))
+  -- every word of the memory, where the list is written back
+  abbrev pub memory_after : List ℕ
+  memory_after = after_copy (restored_word saved s.width) (saved_words s.width) m (copies s (length m) (length saved))
 
 -- ---- determinacy
 
-abbrev unsaid_copied : Outcome Unit → Copied
-unsaid_copied (gives done) = copied.Done
-unsaid_copied (refuses n ds) = copied.Refused (read_back n ds)
+pub saves_determined : (s : WeightedState) (m saved : List ℕ) {r t : Result Unit Refusal} {a b : List ℕ}
+    → said r ≡ copies s (length m) (length saved) → a ≡ list_after s m saved
+    → said t ≡ copies s (length m) (length saved) → b ≡ list_after s m saved
+    → (r ≡ t) × (a ≡ b)
+saves_determined s m saved {r} {t} p p' q q' = (one_result r t p q, one_value p' q')
 
-copied_again : (r : Copied) → unsaid_copied (said_copied r) ≡ r
-copied_again copied.Done = refl
-copied_again (copied.Refused refusal) = ap copied.Refused (reads_back refusal)
-
-pub saves_determined : {s : WeightedState} {m saved : List ℕ} {r t : Copied} {a b : List ℕ} → Saves s m saved r a → Saves s m saved t b → (r ≡ t) × (a ≡ b)
-saves_determined {r = r} {t = t} p q =
-    (one_answer said_copied unsaid_copied copied_again r t p.answers q.answers, one_value p.holds q.holds)
-
-pub restores_state_determined : {s : WeightedState} {m saved : List ℕ} {r t : Copied} {a b : List ℕ}
-    → RestoresState s m saved r a → RestoresState s m saved t b → (r ≡ t) × (a ≡ b)
-restores_state_determined {r = r} {t = t} p q =
-    (one_answer said_copied unsaid_copied copied_again r t p.answers q.answers, one_value p.holds q.holds)
+pub restores_state_determined : (s : WeightedState) (m saved : List ℕ) {r t : Result Unit Refusal} {a b : List ℕ}
+    → said r ≡ copies s (length m) (length saved) → a ≡ memory_after s m saved
+    → said t ≡ copies s (length m) (length saved) → b ≡ memory_after s m saved
+    → (r ≡ t) × (a ≡ b)
+restores_state_determined s m saved {r} {t} p p' q q' = (one_result r t p q, one_value p' q')

@@ -1,6 +1,5 @@
 -- Module 4 of document 01, the state: it keeps its place, ask and put alternate in raster order.
-use Rattle.std.specs.Prelude.{Bool, true, false, ◌&&◌, not, List, [], ◌∷◌, ◌≡◌, refl, ℕ, ◌+◌, ◌^◌, ltb, leb, eqb, ℤ, pos, length}
-use Rattle.std.proofs.Common.{ap, ap₂, sym, ◌∙◌}
+use Rattle.std.specs.Prelude.{Bool, true, false, ◌&&◌, not, List, [], ◌∷◌, ◌≡◌, ℕ, ◌+◌, ◌^◌, ltb, leb, eqb, ℤ, pos, length, Result}
 use Rattle.blend.specs.Blend.{in_range, predicted_of, errors_of, possible}
 use Rattle.blend.specs.declared.Found.{Found}
 use Rattle.blend.specs.declared.Prediction.{Prediction}
@@ -8,18 +7,11 @@ use Rattle.blend.specs.declared.WeightedHeader.{WeightedHeader}
 use Rattle.integer.specs.Fill.{filled}
 use Rattle.integer.specs.Order.{if}
 use Rattle.predict.specs.declared.neighbours.PredictionData.{PredictionData}
-use Rattle.refusal.specs.Paper.{Outcome, gives, refuses, paper, read_back, reads_back, one_answer, one_value}
+use Rattle.refusal.specs.Paper.{Outcome, gives, refuses, said, one_result, one_value}
+use Rattle.refusal.specs.declared.Refusal.{Refusal}
 use Rattle.weighted.specs.Memory.{needed, errors_read, sums_read, updated}
 use Rattle.weighted.specs.declared.state.WeightedState.{WeightedState}
 use Rattle.weighted.specs.declared.state.Answer.{Answer}
-use Rattle.weighted.specs.declared.state.Opened.{Opened}
-use Rattle.weighted.specs.declared.state.Opened.TheVariants as opened
-use Rattle.weighted.specs.declared.state.Asked.{Asked}
-use Rattle.weighted.specs.declared.state.Asked.TheVariants as asked
-use Rattle.weighted.specs.declared.state.Put.{Put}
-use Rattle.weighted.specs.declared.state.Put.TheVariants as put
-use Rattle.weighted.specs.declared.state.Check.{Check}
-use Rattle.weighted.specs.declared.state.Check.TheVariants as check
 
 -- ---- what is tested, in the paper's order
 
@@ -60,18 +52,15 @@ abbrev pub cleared : List ℕ → Outcome WeightedState → List ℕ
 cleared m (gives s) = filled (λ k. 0) (needed s.width) m
 cleared m (refuses number details) = m
 
-abbrev pub said_opened : Opened → Outcome WeightedState
-said_opened (opened.Is s) = gives s
-said_opened (opened.Refused refusal) = paper refusal
-
-pub record Opens (h : WeightedHeader) (width : ℕ) (m : List ℕ) (r : Opened) (m' : List ℕ) : Type 0 where
-  pub answers : said_opened r ≡ opens h width m
-  pub holds : m' ≡ cleared m (opens h width m)
-
 -- ---- ask
 
--- the state remembers what was found, for the put
-abbrev pub answered : WeightedState → Prediction → Answer
+-- a state that remembers what was found, for the put, and what the ask tells
+pub record Answered : Type 0 where
+  pub state : WeightedState
+  pub guess : ℤ
+  pub property : ℤ
+
+abbrev pub answered : WeightedState → Prediction → Answered
 answered s p =
     record {
       state = record { header = s.header; width = s.width; x = s.x; y = s.y; asked = true; found = p.found };
@@ -82,25 +71,25 @@ answered s p =
 abbrev pub predicted_at : WeightedState → List ℕ → PredictionData → Prediction
 predicted_at s m d = predicted_of s.header d (errors_read m s.width s.x s.y) (sums_read m s.width s.x s.y)
 
-abbrev pub asks : WeightedState → List ℕ → PredictionData → Outcome Answer
+-- the same tests as an ask's
+abbrev pub predicts : WeightedState → List ℕ → PredictionData → Outcome Prediction
+predicts s m d = allowed s (not s.asked) (length m) (gives (predicted_at s m d))
+
+abbrev pub asks : WeightedState → List ℕ → PredictionData → Outcome Answered
 asks s m d = allowed s (not s.asked) (length m) (gives (answered s (predicted_at s m d)))
 
-abbrev pub said_asked : Asked → Outcome Answer
-said_asked (asked.Is a) = gives a
-said_asked (asked.Refused k) = paper k.refusal
+-- an ask tells the guess and the property
+abbrev pub told : Answered → Answer
+told a = record { guess = a.guess; property = a.property }
 
-abbrev pub state_asked : Asked → WeightedState
-state_asked (asked.Is a) = a.state
-state_asked (asked.Refused k) = k.state
+abbrev pub tells : Outcome Answered → Outcome Answer
+tells (gives a) = gives (told a)
+tells (refuses number details) = refuses number details
 
--- a refusal returns the old state
-abbrev pub after_ask : WeightedState → Outcome Answer → WeightedState
+-- a refusal leaves the old state
+abbrev pub after_ask : WeightedState → Outcome Answered → WeightedState
 after_ask s (gives a) = a.state
 after_ask s (refuses number details) = s
-
-pub record Asks (s : WeightedState) (m : List ℕ) (d : PredictionData) (r : Asked) : Type 0 where
-  pub answers : said_asked r ≡ asks s m d
-  pub state_is : state_asked r ≡ after_ask s (asks s m d)
 
 -- ---- put
 
@@ -127,64 +116,29 @@ abbrev pub after_put : WeightedState → List ℕ → ℤ → Outcome WeightedSt
 after_put s m v (gives next) = updated m s.width s.x s.y (errors_of s.found v)
 after_put s m v (refuses number details) = m
 
-abbrev pub said_put : Put → Outcome WeightedState
-said_put (put.Done s) = gives s
-said_put (put.Refused k) = paper k.refusal
-
-abbrev pub state_put : Put → WeightedState
-state_put (put.Done s) = s
-state_put (put.Refused k) = k.state
+-- that it is done is all that a put tells
+abbrev pub done : {A : Type 0} → Outcome A → Outcome Unit
+done (gives a) = gives tt
+done (refuses number details) = refuses number details
 
 abbrev pub next_state : WeightedState → Outcome WeightedState → WeightedState
 next_state s (gives next) = next
 next_state s (refuses number details) = s
 
-pub record Puts (s : WeightedState) (m : List ℕ) (v : ℤ) (r : Put) (m' : List ℕ) : Type 0 where
-  pub answers : said_put r ≡ puts s m
-  pub state_is : state_put r ≡ next_state s (puts s m)
-  pub holds : m' ≡ after_put s m v (puts s m)
-
-abbrev pub said_check : Check → Outcome Unit
-said_check check.Passed = gives tt
-said_check (check.Refused refusal) = paper refusal
-
 -- ---- determinacy
 
-abbrev unsaid_opened : Outcome WeightedState → Opened
-unsaid_opened (gives s) = opened.Is s
-unsaid_opened (refuses n ds) = opened.Refused (read_back n ds)
+pub opens_determined : (h : WeightedHeader) (width : ℕ) (m : List ℕ) {r s : Result WeightedState Refusal} {m' m'' : List ℕ}
+    → said r ≡ opens h width m → m' ≡ cleared m (opens h width m) → said s ≡ opens h width m → m'' ≡ cleared m (opens h width m)
+    → (r ≡ s) × (m' ≡ m'')
+opens_determined h width m {r} {s} p p' q q' = (one_result r s p q, one_value p' q')
 
-opened_again : (r : Opened) → unsaid_opened (said_opened r) ≡ r
-opened_again (opened.Is s) = refl
-opened_again (opened.Refused refusal) = ap opened.Refused (reads_back refusal)
+pub asks_determined : (s : WeightedState) (m : List ℕ) (d : PredictionData) {r t : Result Answer Refusal} {a b : WeightedState}
+    → said r ≡ tells (asks s m d) → a ≡ after_ask s (asks s m d) → said t ≡ tells (asks s m d) → b ≡ after_ask s (asks s m d)
+    → (r ≡ t) × (a ≡ b)
+asks_determined s m d {r} {t} p p' q q' = (one_result r t p q, one_value p' q')
 
-pub opens_determined : {h : WeightedHeader} {width : ℕ} {m : List ℕ} {r s : Opened} {m' m'' : List ℕ}
-    → Opens h width m r m' → Opens h width m s m'' → (r ≡ s) × (m' ≡ m'')
-opens_determined {r = r} {s = s} p q =
-    (one_answer said_opened unsaid_opened opened_again r s p.answers q.answers, one_value p.holds q.holds)
-
-abbrev unsaid_asked : Outcome Answer → WeightedState → Asked
-unsaid_asked (gives a) s = asked.Is a
-unsaid_asked (refuses n ds) s = asked.Refused (record { state = s; refusal = read_back n ds })
-
-asked_again : (r : Asked) → unsaid_asked (said_asked r) (state_asked r) ≡ r
-asked_again (asked.Is a) = refl
-asked_again (asked.Refused k) = ap (λ (x : _). asked.Refused (record { state = k.state; refusal = x })) (reads_back k.refusal)
-
-pub asks_determined : {s : WeightedState} {m : List ℕ} {d : PredictionData} {r t : Asked} → Asks s m d r → Asks s m d t → r ≡ t
-asks_determined {r = r} {t = t} p q =
-    sym (asked_again r) ∙ ap₂ unsaid_asked (one_value p.answers q.answers) (one_value p.state_is q.state_is) ∙ asked_again t
-
-abbrev unsaid_put : Outcome WeightedState → WeightedState → Put
-unsaid_put (gives next) s = put.Done next
-unsaid_put (refuses n ds) s = put.Refused (record { state = s; refusal = read_back n ds })
-
-put_again : (r : Put) → unsaid_put (said_put r) (state_put r) ≡ r
-put_again (put.Done s) = refl
-put_again (put.Refused k) = ap (λ (x : _). put.Refused (record { state = k.state; refusal = x })) (reads_back k.refusal)
-
-pub puts_determined : {s : WeightedState} {m : List ℕ} {v : ℤ} {r t : Put} {m' m'' : List ℕ} → Puts s m v r m' → Puts s m v t m'' → (r ≡ t) × (m' ≡ m'')
-puts_determined {r = r} {t = t} p q = (
-  sym (put_again r) ∙ ap₂ unsaid_put (one_value p.answers q.answers) (one_value p.state_is q.state_is) ∙ put_again t,
-  one_value p.holds q.holds,
-)
+pub puts_determined : (s : WeightedState) (m : List ℕ) (v : ℤ) {r t : Result Unit Refusal} {a b : WeightedState} {m' m'' : List ℕ}
+    → said r ≡ done (puts s m) → a ≡ next_state s (puts s m) → m' ≡ after_put s m v (puts s m)
+    → said t ≡ done (puts s m) → b ≡ next_state s (puts s m) → m'' ≡ after_put s m v (puts s m)
+    → (r ≡ t) × (a ≡ b) × (m' ≡ m'')
+puts_determined s m v {r} {t} p p' p'' q q' q'' = (one_result r t p q, one_value p' q', one_value p'' q'')

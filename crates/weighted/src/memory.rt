@@ -1,7 +1,6 @@
 // The lent memory: two halves of width + 2 positions of five words, a signed error and four unsigned sums. Odd rows write the
 // first half. Nothing here is for callers: they go by the state.
 ghost use Rattle.std.specs.Prelude.{◌≡◌, ◌+◌, ◌*◌, ◌%◌, ◌≤◌, ◌<◌, ◌^◌, length};
-ghost use Rattle.integer.specs.Fill.{filled};
 ghost use Rattle.weighted.specs.Memory.{
   needed,
   current,
@@ -136,16 +135,4 @@ pub fn update(memory: &mut [u32], width: usize, x: usize, y: usize, errors: Pixe
     let next = previous_half(width, y) + x + 1;
     store(memory, here, errors);
     add(memory, next, errors.sub);
-}
-
-// The first n words become 0.
-pub fn clear(memory: &mut [u32], n: usize)
-    requires { n ≤ length memory.old }
-    ensures { memory.new ≡ filled (λ k. 0) n memory.old }
-{
-    let mut i = 0;
-    while i < n {
-        memory[i] = 0;
-        i += 1;
-    }
 }

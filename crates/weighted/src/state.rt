@@ -1,26 +1,33 @@
-// The state: a value that keeps its place. Ask and put alternate in raster order.
+// The state: it keeps its place. Ask and put alternate in raster order, and a refusal leaves the state as it was.
 ghost use Rattle.std.specs.Prelude.{◌&&◌, ◌≡◌};
 ghost use Rattle.blend.specs.Blend.{possible};
-ghost use Rattle.refusal.specs.Paper.{gives};
+ghost use Rattle.refusal.specs.Paper.{gives, said};
 ghost use Rattle.weighted.specs.State.{
+  after_ask,
+  after_put,
   allowed,
   answered,
+  asks,
   at_start,
+  cleared,
+  done,
   is_place,
   moved,
-  Opens,
-  Asks,
-  Puts,
-  said_check,
+  next_state,
+  opens,
+  predicts,
+  puts,
+  tells,
+  told,
 };
 
-use crate::memory::{clear, errors_around, sums_around, update};
-use blend::{Found, Left, Predicted, Prediction, WeightedHeader};
+use crate::memory::{errors_around, sums_around, update};
+use blend::{Found, Prediction, WeightedHeader};
 use predict::neighbours::PredictionData;
 use refusal::Refusal;
 
 // The header, the place of the next or pending pixel, and whether an ask waits for its put, with what it found.
-#[derive(Clone, Copy)]
+#[derive(Clone, Copy, Debug, PartialEq, Eq)]
 pub struct WeightedState {
     pub header: WeightedHeader,
     pub width: usize,
@@ -30,42 +37,11 @@ pub struct WeightedState {
     pub found: Found,
 }
 
-#[derive(Clone, Copy)]
+// What an ask tells.
+#[derive(Clone, Copy, Debug, PartialEq, Eq)]
 pub struct Answer {
-    pub state: WeightedState,
     pub guess: i64,
     pub property: i32,
-}
-
-// A refusal and the state as it was.
-#[derive(Clone, Copy)]
-pub struct Kept {
-    pub state: WeightedState,
-    pub refusal: Refusal,
-}
-
-#[derive(Clone, Copy)]
-pub enum Opened {
-    Is(WeightedState),
-    Refused(Refusal),
-}
-
-#[derive(Clone, Copy)]
-pub enum Asked {
-    Is(Answer),
-    Refused(Kept),
-}
-
-#[derive(Clone, Copy)]
-pub enum Put {
-    Done(WeightedState),
-    Refused(Kept),
-}
-
-#[derive(Clone, Copy)]
-pub enum Check {
-    Passed,
-    Refused(Refusal),
 }
 
 impl WeightedState {
@@ -91,176 +67,124 @@ impl WeightedState {
     }
 
     // The same, over memory that is cleared as far as it is needed.
-    pub fn open(header: WeightedHeader, width: usize, memory: &mut [u32]) -> Opened
-        ensures { Opens header width memory.old result memory.new }
+    pub fn open(
+        header: WeightedHeader,
+        width: usize,
+        memory: &mut [u32],
+    ) -> Result<WeightedState, Refusal>
+        ensures answers { said result ≡ opens header width memory.old }
+        ensures holds { memory.new ≡ cleared memory.old (opens header width memory.old) }
     {
         if !header.in_range() {
-            return Opened::Refused(Refusal::HeaderRange);
+            return Err(Refusal::HeaderRange);
         }
-        if width < 1 {
-            return Opened::Refused(Refusal::WrongSize);
-        }
-        if 65536 < width {
-            return Opened::Refused(Refusal::WrongSize);
+        if width < 1 || 65536 < width {
+            return Err(Refusal::WrongSize);
         }
         let needed = 10 * (width + 2);
         if memory.len() < needed {
-            return Opened::Refused(Refusal::TooSmall {
+            return Err(Refusal::TooSmall {
                 needed: needed as u32,
             });
         }
-        clear(memory, needed);
-        Opened::Is(WeightedState::start(header, width))
+        memory[..needed].fill(0);
+        Ok(WeightedState::start(header, width))
     }
 
     // Whether the next or pending pixel is one of the picture.
-    fn is_place(self) -> bool
-        ensures { result ≡ is_place self }
+    fn is_place(&self) -> bool
+        ensures { result ≡ is_place self.now }
     {
-        if 65536 < self.width {
-            return false;
-        }
-        if self.width <= self.x {
-            return false;
-        }
-        self.y < 1073741824
+        self.width <= 65536 && self.x < self.width && self.y < 1073741824
     }
 
     // Whether a call may go on, in the order of the paper: header, place, turn, memory.
-    fn check(self, turn: bool, lent: usize) -> Check
-        ensures { said_check result ≡ allowed self turn lent (gives tt) }
+    #[tactic(auto, unfolding(crate::specs::State::allowed))]
+    fn check(&self, turn: bool, lent: usize) -> Result<(), Refusal>
+        ensures { said result ≡ allowed self.now turn lent (gives tt) }
     {
-        let width = self.width;
         if !self.header.in_range() {
-            return Check::Refused(Refusal::HeaderRange);
+            return Err(Refusal::HeaderRange);
         }
         if !self.is_place() {
-            return Check::Refused(Refusal::WrongSize);
+            return Err(Refusal::WrongSize);
         }
         if !turn {
-            return Check::Refused(Refusal::OutOfTurn);
+            return Err(Refusal::OutOfTurn);
         }
-        let needed = 10 * (width + 2);
+        let needed = 10 * (self.width + 2);
         if lent < needed {
-            return Check::Refused(Refusal::TooSmall {
+            return Err(Refusal::TooSmall {
                 needed: needed as u32,
             });
         }
-        Check::Passed
+        Ok(())
     }
 
-    // The state that remembers what was found, with the guess and the property.
-    pub fn answer(self, prediction: Prediction) -> Answer
-        ensures { result ≡ answered self prediction }
+    // What is found for the pixel at the state's place, whose neighbours these are; the state does not remember it.
+    pub fn predict(&self, memory: &[u32], data: PredictionData) -> Result<Prediction, Refusal>
+        ensures { said result ≡ predicts self.now memory.now «data» }
     {
-        let header = self.header;
-        let found = prediction.found;
+        self.check(!self.asked, memory.len())?;
+        let errors = errors_around(memory, self.width, self.x, self.y);
+        let sums = sums_around(memory, self.width, self.x, self.y);
+        blend::predict_and_property(self.header, data, errors, sums)
+    }
+
+    // Remembers what was found, for the put, and tells the guess and the property.
+    pub fn answer(&mut self, prediction: Prediction) -> Answer
+        ensures answers { result ≡ told (answered self.old prediction) }
+        ensures state_is { self.new ≡ (answered self.old prediction).state }
+    {
+        self.asked = true;
+        self.found = prediction.found;
         Answer {
-            state: WeightedState {
-                header,
-                width: self.width,
-                x: self.x,
-                y: self.y,
-                asked: true,
-                found,
-            },
             guess: prediction.guess,
             property: prediction.property,
         }
     }
 
     // The guess and the property of the pixel at the state's place, whose neighbours these are.
-    pub fn ask(self, memory: &[u32], data: PredictionData) -> Asked
-        ensures { Asks self memory.now «data» result }
+    pub fn ask(&mut self, memory: &[u32], data: PredictionData) -> Result<Answer, Refusal>
+        ensures answers { said result ≡ tells (asks self.old memory.now «data») }
+        ensures state_is { self.new ≡ after_ask self.old (asks self.old memory.now «data») }
     {
-        let checked = self.check(!self.asked, memory.len());
-        match checked {
-            Check::Refused(refusal) => Asked::Refused(Kept {
-                state: self,
-                refusal,
-            }),
-            Check::Passed => {
-                let errors = errors_around(memory, self.width, self.x, self.y);
-                let sums = sums_around(memory, self.width, self.x, self.y);
-                let predicted = blend::predict_and_property(self.header, data, errors, sums);
-                match predicted {
-                    Predicted::Is(prediction) => Asked::Is(self.answer(prediction)),
-                    Predicted::Refused(refusal) => Asked::Refused(Kept {
-                        state: self,
-                        refusal,
-                    }),
-                }
-            }
-        }
+        let prediction = self.predict(memory, data)?;
+        Ok(self.answer(prediction))
     }
 
     // Whether an ask waits for its put. A state with what no ask can have found does not.
-    fn put_due(self) -> bool
-        ensures { result ≡ (self.asked && possible self.found) }
+    fn put_due(&self) -> bool
+        ensures { result ≡ (self.now.asked && possible self.now.found) }
     {
-        if self.asked {
-            self.found.possible()
-        } else {
-            false
-        }
+        self.asked && self.found.possible()
     }
 
-    // The place one pixel on, an ask due, and nothing put; outside of the picture the state stays.
-    pub fn moved(self) -> WeightedState
-        ensures { result ≡ moved self }
+    // One pixel on, an ask due, and nothing put; outside of the picture the state stays.
+    pub fn advance(&mut self)
+        ensures { self.new ≡ moved self.old }
     {
-        let header = self.header;
-        let found = self.found;
-        let width = self.width;
-        let x = self.x;
-        let y = self.y;
         if !self.is_place() {
-            return self;
+            return;
         }
-        if x + 1 == width {
-            WeightedState {
-                header,
-                width,
-                x: 0,
-                y: y + 1,
-                asked: false,
-                found,
-            }
-        } else {
-            WeightedState {
-                header,
-                width,
-                x: x + 1,
-                y,
-                asked: false,
-                found,
-            }
+        self.asked = false;
+        self.x += 1;
+        if self.x == self.width {
+            self.x = 0;
+            self.y += 1;
         }
     }
 
     // The true value of the pixel that was asked for.
-    pub fn put(self, memory: &mut [u32], value: i32) -> Put
-        ensures { Puts self memory.old value result memory.new }
+    pub fn put(&mut self, memory: &mut [u32], value: i32) -> Result<(), Refusal>
+        ensures answers { said result ≡ done (puts self.old memory.old) }
+        ensures state_is { self.new ≡ next_state self.old (puts self.old memory.old) }
+        ensures holds { memory.new ≡ after_put self.old memory.old value (puts self.old memory.old) }
     {
-        let checked = self.check(self.put_due(), memory.len());
-        match checked {
-            Check::Refused(refusal) => Put::Refused(Kept {
-                state: self,
-                refusal,
-            }),
-            Check::Passed => {
-                let left = blend::errors_of(self.found, value);
-                match left {
-                    Left::Is(errors) => {
-                        update(memory, self.width, self.x, self.y, errors);
-                        Put::Done(self.moved())
-                    }
-                    Left::Refused(refusal) => Put::Refused(Kept {
-                        state: self,
-                        refusal,
-                    }),
-                }
-            }
-        }
+        self.check(self.put_due(), memory.len())?;
+        let errors = blend::errors_of(self.found, value)?;
+        update(memory, self.width, self.x, self.y, errors);
+        self.advance();
+        Ok(())
     }
 }

@@ -1,5 +1,6 @@
--- `save_words` meets its promise. The loop's invariant: k words are saved, and word k is word `row` of position x.
-use lib.ListN.{length, get_or, set}
+-- `save_words` meets its promise: before the loops no word is saved, each turn saves the next, and a row's end is the next row's begin.
+use lib.Arith.{digits_lt}
+use lib.ListN.{length, set}
 use mathlib.Core.List.{List}
 use mathlib.Core.Path.{◌≡◌, sym, ap, ap₂, ◌∙◌}
 use native.Mathlib.Nat.{add-mul}
@@ -12,23 +13,25 @@ use Rattle.weighted.specs.Saved.{saved_word}
 use Rattle.weighted.proofs.Copied.{saved_cell}
 use Rattle.weighted.proofs.saving.save_words.Goals as goal
 
-pub loop-k-init : goal.loop-k-init
-loop-k-init c = (omega arith, omega arith, omega arith, sym (filled_none _ _))
+pub loop-row-init : goal.loop-row-init
+loop-row-init c =
+    let none : 0 ≡ 0 * positions c.args.width = omega arith in
+    sym (filled_none _ _) ∙ ap (λ (n : ℕ). filled (saved_word c.args.memory.now c.args.width) n c.args.saved.now) none
 
-pub loop-k-preserved-then-x-positions : goal.loop-k-preserved-then-x-positions
-loop-k-preserved-then-x-positions c =
-    -- one word more
-    let more : set c.loop-k.saved c.loop-k.k (get_or c.args.memory.now (5 * c.loop-k.x + c.loop-k.row) 0) ≡ filled (saved_word c.args.memory.now c.args.width) (c.loop-k.k + 1) c.args.saved.now =
-    let below : c.loop-k.k < length c.args.saved.now = omega arith in
-    let word = saved_cell c.args.memory.now c.args.width c.loop-k.row c.loop-k.x c.loop-k.invariant.1 ∙ ap (saved_word c.args.memory.now c.args.width) (sym c.loop-k.invariant.2) in
-    ap₂ (λ (d : List ℕ) (v : ℕ). set d c.loop-k.k v) c.loop-k.invariant.3 word ∙ filled_more _ _ _ below in
-    (omega arith, omega arith, omega (arith, add-mul c.loop-k.row 1 (positions c.args.width)), more)
+pub loop-x-preserved : goal.loop-x-preserved
+loop-x-preserved c =
+    let at : ℕ = c.loop-row.row * positions c.args.width + c.loop-x.x in
+    let within = digits_lt c.loop-row-test.true c.loop-x-test.true in
+    let below : at < length c.args.saved.now = omega (arith, within) in
+    let word = saved_cell c.args.memory.now c.args.width c.loop-row.row c.loop-x.x c.loop-x-test.true in
+    let next : at + 1 ≡ c.loop-row.row * positions c.args.width + (c.loop-x.x + 1) = omega arith in
+    ap₂ (λ (d : List ℕ) (v : ℕ). set d at v) c.loop-x.invariant word
+    ∙ filled_more _ _ _ below
+    ∙ ap (λ (n : ℕ). filled (saved_word c.args.memory.now c.args.width) n c.args.saved.now) next
 
-pub loop-k-preserved : goal.loop-k-preserved
-loop-k-preserved c =
-    -- one word more
-    let more : set c.loop-k.saved c.loop-k.k (get_or c.args.memory.now (5 * c.loop-k.x + c.loop-k.row) 0) ≡ filled (saved_word c.args.memory.now c.args.width) (c.loop-k.k + 1) c.args.saved.now =
-    let below : c.loop-k.k < length c.args.saved.now = omega arith in
-    let word = saved_cell c.args.memory.now c.args.width c.loop-k.row c.loop-k.x c.loop-k.invariant.1 ∙ ap (saved_word c.args.memory.now c.args.width) (sym c.loop-k.invariant.2) in
-    ap₂ (λ (d : List ℕ) (v : ℕ). set d c.loop-k.k v) c.loop-k.invariant.3 word ∙ filled_more _ _ _ below in
-    (omega arith, omega (arith, c.if-x-positions.false), omega arith, more)
+pub loop-row-preserved : goal.loop-row-preserved
+loop-row-preserved c =
+    let whole : c.loop-x.x ≡ positions c.args.width = omega (arith, c.loop-x.auto.x-end) in
+    let next : c.loop-row.row * positions c.args.width + c.loop-x.x ≡ (c.loop-row.row + 1) * positions c.args.width =
+    omega (arith, whole, add-mul c.loop-row.row 1 (positions c.args.width)) in
+    c.loop-x.invariant ∙ ap (λ (n : ℕ). filled (saved_word c.args.memory.now c.args.width) n c.args.saved.now) next

@@ -1,0 +1,10 @@
+-- `gradient` meets its contract: each operation fits, so that what the code holds is the number.
+use Rattle.std.proofs.Common.{arith}
+use Rattle.blend.proofs.Sizes.{sizes}
+use Rattle.blend.proofs.sub_predictions.gradient.Goals as goal
+
+pub returns-clause-value : goal.returns-clause-value
+returns-clause-value c = search (arith, sizes)
+
+pub returns-clause-small : goal.returns-clause-small
+returns-clause-small c = search (arith, sizes)
