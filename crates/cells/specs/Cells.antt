@@ -1,13 +1,11 @@
 -- Module 5 of document 01: the cells by groups of the mask. All wrap; cells outside the used groups stay.
-use Rattle.std.specs.Prelude.{Bool, ◌&&◌, not, List, [], ◌∷◌, ◌++◌, ◌≡◌, refl, ℕ, ◌+◌, ◌/◌, ◌%◌, ◌^◌, ◌≤◌, ltb, leb, eqb, ℤ, pos, ◌+ℤ◌, ◌-ℤ◌, length, get_or, set, take, drop}
-use Rattle.std.proofs.Common.{ap}
+use Rattle.std.specs.Prelude.{Bool, ◌&&◌, not, List, [], ◌∷◌, ◌++◌, ◌≡◌, ℕ, ◌+◌, ◌/◌, ◌%◌, ◌^◌, ◌≤◌, ltb, leb, eqb, ℤ, pos, ◌+ℤ◌, ◌-ℤ◌, length, get_or, set, take, drop, Result}
 use Rattle.integer.specs.Fill.{tabulate}
 use Rattle.integer.specs.Order.{if, magnitude}
 use Rattle.integer.specs.Word.{wrap}
 use Rattle.predict.specs.declared.neighbours.PredictionData.{PredictionData}
-use Rattle.refusal.specs.Paper.{Outcome, gives, refuses, paper, read_back, reads_back, one_answer, one_value}
-use Rattle.cells.specs.declared.Filled.{Filled}
-use Rattle.cells.specs.declared.Filled.TheVariants.{Done, Refused}
+use Rattle.refusal.specs.Paper.{Outcome, gives, refuses, said, one_result, one_value}
+use Rattle.refusal.specs.declared.Refusal.{Refusal}
 
 -- before a channel's first pixel: cells 0 and 1 are channel and stream, the rest 0
 abbrev pub start_cells : ℤ → ℤ → ℕ → List ℤ
@@ -87,36 +85,22 @@ abbrev pub after : List ℤ → Outcome Unit → List ℤ → List ℤ
 after filled (gives done) cells = filled
 after filled (refuses number details) cells = cells
 
-abbrev pub said : Filled → Outcome Unit
-said Done = gives tt
-said (Refused refusal) = paper refusal
-
-pub record Fills (mask x y : ℕ) (d : PredictionData) (property : ℤ) (references cells : List ℤ) (r : Filled) (cells' : List ℤ) : Type 0 where
-  pub answers : said r ≡ outcome mask x y (length references) (length cells)
-  pub holds : cells' ≡ after (filled_cells mask x y d property references cells) (outcome mask x y (length references) (length cells)) cells
-
 -- 10 where fewer than 16 are lent
 abbrev pub starting : ℕ → Outcome Unit
 starting cells = if (ltb cells 16) (refuses 10 (pos 16 ∷ [])) (gives tt)
 
-pub record Starts (channel stream : ℤ) (cells : List ℤ) (r : Filled) (cells' : List ℤ) : Type 0 where
-  pub answers : said r ≡ starting (length cells)
-  pub holds : cells' ≡ after (start_cells channel stream (length cells)) (starting (length cells)) cells
+-- ---- determinacy: of each promise, one answer and one list of cells
 
--- ---- determinacy
+pub fills_determined : (mask x y : ℕ) (d : PredictionData) (property : ℤ) (references cells : List ℤ) (r s : Result Unit Refusal) {a b : List ℤ}
+    → said r ≡ outcome mask x y (length references) (length cells)
+    → a ≡ after (filled_cells mask x y d property references cells) (outcome mask x y (length references) (length cells)) cells
+    → said s ≡ outcome mask x y (length references) (length cells)
+    → b ≡ after (filled_cells mask x y d property references cells) (outcome mask x y (length references) (length cells)) cells
+    → (r ≡ s) × (a ≡ b)
+fills_determined mask x y d property references cells r s p f q g = (one_result r s p q, one_value f g)
 
-abbrev unsaid : Outcome Unit → Filled
-unsaid (gives done) = Done
-unsaid (refuses n ds) = Refused (read_back n ds)
-
-said_again : (r : Filled) → unsaid (said r) ≡ r
-said_again Done = refl
-said_again (Refused refusal) = ap Refused (reads_back refusal)
-
-pub fills_determined : {mask x y : ℕ} {d : PredictionData} {property : ℤ} {references cells : List ℤ} {r s : Filled} {a b : List ℤ}
-    → Fills mask x y d property references cells r a → Fills mask x y d property references cells s b → (r ≡ s) × (a ≡ b)
-fills_determined {r = r} {s = s} p q = (one_answer said unsaid said_again r s p.answers q.answers, one_value p.holds q.holds)
-
-pub starts_determined : {channel stream : ℤ} {cells : List ℤ} {r s : Filled} {a b : List ℤ}
-    → Starts channel stream cells r a → Starts channel stream cells s b → (r ≡ s) × (a ≡ b)
-starts_determined {r = r} {s = s} p q = (one_answer said unsaid said_again r s p.answers q.answers, one_value p.holds q.holds)
+pub starts_determined : (channel stream : ℤ) (cells : List ℤ) (r s : Result Unit Refusal) {a b : List ℤ}
+    → said r ≡ starting (length cells) → a ≡ after (start_cells channel stream (length cells)) (starting (length cells)) cells
+    → said s ≡ starting (length cells) → b ≡ after (start_cells channel stream (length cells)) (starting (length cells)) cells
+    → (r ≡ s) × (a ≡ b)
+starts_determined channel stream cells r s p f q g = (one_result r s p q, one_value f g)

@@ -13,31 +13,38 @@ ghost use Rattle.cells.specs.Cells.{
   cells_needed,
   in_domain,
   filled_cells,
-  Fills,
-  Starts,
+  outcome,
+  start_cells,
+  starting,
+  after,
+  uses,
 };
+ghost use Rattle.refusal.specs.Paper.{said};
 
-use integer::{clear, wrapping_abs, wrapping_add, wrapping_sub};
+use integer::clear;
 use predict::neighbours::PredictionData;
 use refusal::Refusal;
 
-#[derive(Clone, Copy)]
-pub enum Filled {
-    Done,
-    Refused(Refusal),
-}
-
 // The cells before a channel's first pixel: 0 the channel, 1 the stream, the rest 0.
-pub fn start_cells(channel: i32, stream: i32, cells: &mut [i32]) -> Filled
-    ensures { Starts «channel» «stream» cells.old result cells.new }
+pub fn start_cells(channel: i32, stream: i32, cells: &mut [i32]) -> Result<(), Refusal>
+    ensures answers { said result ≡ starting (length cells.old) }
+    ensures holds { cells.new ≡ after (start_cells «channel» «stream» (length cells.old)) (starting (length cells.old)) cells.old }
 {
     if cells.len() < 16 {
-        return Filled::Refused(Refusal::TooFewCells { needed: 16 });
+        return Err(Refusal::TooFewCells { needed: 16 });
     }
     clear(cells);
     cells[0] = channel;
     cells[1] = stream;
-    Filled::Done
+    Ok(())
+}
+
+// Whether the mask has one of the `count` bits from bit `low` on.
+fn uses(mask: u32, low: u32, count: u32) -> bool
+    requires { (low < 32) × (count < 32) }
+    ensures { result ≡ uses mask low count }
+{
+    (mask >> low) % (1 << count) != 0
 }
 
 // 2 y, 3 x.
@@ -45,7 +52,7 @@ fn fill_position(mask: u32, x: usize, y: usize, cells: &mut [i32])
     requires { (16 ≤ length cells.old) × (x < 65536) × (y < 2 ^ 30) }
     ensures { cells.new ≡ positioned mask x y cells.old }
 {
-    if mask / 4 % 4 != 0 {
+    if uses(mask, 2, 2) {
         cells[2] = y as i32;
         cells[3] = x as i32;
     }
@@ -56,13 +63,11 @@ fn fill_neighbours(mask: u32, data: PredictionData, cells: &mut [i32])
     requires { 16 ≤ length cells.old }
     ensures { cells.new ≡ neighboured mask «data» cells.old }
 {
-    if mask / 16 % 16 != 0 {
-        let top = data.top;
-        let left = data.left;
-        cells[4] = wrapping_abs(top);
-        cells[5] = wrapping_abs(left);
-        cells[6] = top;
-        cells[7] = left;
+    if uses(mask, 4, 4) {
+        cells[4] = data.top.wrapping_abs();
+        cells[5] = data.left.wrapping_abs();
+        cells[6] = data.top;
+        cells[7] = data.left;
     }
 }
 
@@ -71,11 +76,9 @@ fn fill_gradient(mask: u32, data: PredictionData, cells: &mut [i32])
     requires { 16 ≤ length cells.old }
     ensures { cells.new ≡ graded mask «data» cells.old }
 {
-    if mask / 256 % 4 != 0 {
-        let gradient = wrapping_sub(wrapping_add(data.left, data.top), data.topleft);
-        let step = wrapping_sub(data.left, cells[9]);
-        cells[8] = step;
-        cells[9] = gradient;
+    if uses(mask, 8, 2) {
+        cells[8] = data.left.wrapping_sub(cells[9]);
+        cells[9] = data.left.wrapping_add(data.top).wrapping_sub(data.topleft);
     }
 }
 
@@ -84,17 +87,12 @@ fn fill_context(mask: u32, data: PredictionData, cells: &mut [i32])
     requires { 16 ≤ length cells.old }
     ensures { cells.new ≡ contexted mask «data» cells.old }
 {
-    if mask / 1024 % 32 != 0 {
-        let ten = wrapping_sub(data.left, data.topleft);
-        let eleven = wrapping_sub(data.topleft, data.top);
-        let twelve = wrapping_sub(data.top, data.topright);
-        let thirteen = wrapping_sub(data.top, data.toptop);
-        let fourteen = wrapping_sub(data.left, data.leftleft);
-        cells[10] = ten;
-        cells[11] = eleven;
-        cells[12] = twelve;
-        cells[13] = thirteen;
-        cells[14] = fourteen;
+    if uses(mask, 10, 5) {
+        cells[10] = data.left.wrapping_sub(data.topleft);
+        cells[11] = data.topleft.wrapping_sub(data.top);
+        cells[12] = data.top.wrapping_sub(data.topright);
+        cells[13] = data.top.wrapping_sub(data.toptop);
+        cells[14] = data.left.wrapping_sub(data.leftleft);
     }
 }
 
@@ -103,21 +101,8 @@ fn fill_weighted(mask: u32, wp_property: i32, cells: &mut [i32])
     requires { 16 ≤ length cells.old }
     ensures { cells.new ≡ weighed mask wp_property cells.old }
 {
-    if mask / 32768 % 2 != 0 {
+    if uses(mask, 15, 1) {
         cells[15] = wp_property;
-    }
-}
-
-// Word after word.
-fn copy(from: &[i32], to: &mut [i32])
-    requires { length to.old ≡ length from.now }
-    ensures { to.new ≡ from.now }
-{
-    let mut i = 0;
-    while i < from.len() {
-        let word = from[i];
-        to[i] = word;
-        i += 1;
     }
 }
 
@@ -126,9 +111,9 @@ fn fill_references(mask: u32, references: &[i32], cells: &mut [i32])
     requires { (16 ≤ length cells.old) × Holds mask (length references.now) (length cells.old) }
     ensures { cells.new ≡ referred mask references.now cells.old }
 {
-    if mask / 65536 % 65536 != 0 {
+    if uses(mask, 16, 16) {
         let end = 16 + references.len();
-        copy(references, &mut cells[16..end]);
+        cells[16..end].copy_from_slice(references);
     }
 }
 
@@ -136,7 +121,7 @@ fn fill_references(mask: u32, references: &[i32], cells: &mut [i32])
 pub fn cells_needed(mask: u32, references: &[i32]) -> usize
     ensures { result ≡ cells_needed mask (length references.now) }
 {
-    if mask / 65536 % 65536 != 0 {
+    if uses(mask, 16, 16) {
         16 + references.len()
     } else {
         16
@@ -147,13 +132,7 @@ pub fn cells_needed(mask: u32, references: &[i32]) -> usize
 fn in_domain(x: usize, y: usize, needed: usize) -> bool
     ensures { result ≡ in_domain x y needed }
 {
-    if 65536 <= x {
-        return false;
-    }
-    if 1073741824 <= y {
-        return false;
-    }
-    needed <= 4294967295
+    x < 65536 && y < 1073741824 && needed <= 4294967295
 }
 
 // Group after group, if any is used: the tree of a leaf alone uses none.
@@ -169,7 +148,8 @@ fn fill_all(
     requires { (x < 65536) × (y < 2 ^ 30) × (16 ≤ length cells.old) × Holds mask (length references.now) (length cells.old) }
     ensures { cells.new ≡ filled_cells mask x y «data» wp_property references.now cells.old }
 {
-    if mask == 0 {
+    let unused = mask == 0;
+    if unused {
         return;
     }
     fill_position(mask, x, y, cells);
@@ -189,19 +169,19 @@ pub fn compute_properties(
     wp_property: i32,
     references: &[i32],
     cells: &mut [i32],
-) -> Filled
-    ensures { Fills mask x y «data» wp_property references.now cells.old result cells.new }
+) -> Result<(), Refusal>
+    ensures answers { said result ≡ outcome mask x y (length references.now) (length cells.old) }
+    ensures holds { cells.new ≡ after (filled_cells mask x y «data» wp_property references.now cells.old) (outcome mask x y (length references.now) (length cells.old)) cells.old }
 {
     let needed = cells_needed(mask, references);
-    if in_domain(x, y, needed) {
-        if cells.len() < needed {
-            return Filled::Refused(Refusal::TooFewCells {
-                needed: needed as u32,
-            });
-        }
-        fill_all(mask, x, y, data, wp_property, references, cells);
-        Filled::Done
-    } else {
-        Filled::Refused(Refusal::WrongSize)
+    if !in_domain(x, y, needed) {
+        return Err(Refusal::WrongSize);
     }
+    if cells.len() < needed {
+        return Err(Refusal::TooFewCells {
+            needed: needed as u32,
+        });
+    }
+    fill_all(mask, x, y, data, wp_property, references, cells);
+    Ok(())
 }

@@ -1,18 +1,16 @@
 -- Module 8 of document 01, the flat walk: from record 0 down to a leaf, each split record deciding two levels. It tests 1, 2, 5, then 16
 -- cells (10), then only the records it enters, at each 3, 4, 10. Both children's properties must have cells, also where only one is compared.
-use Rattle.std.specs.Prelude.{Bool, ◌&&◌, List, [], ◌∷◌, ◌≡◌, ℕ, zero, suc, ◌+◌, ltb, leb, eqb, ℤ, pos, length}
+use Rattle.std.specs.Prelude.{Bool, ◌&&◌, List, [], ◌∷◌, ◌≡◌, ℕ, zero, suc, ◌+◌, ltb, leb, eqb, ℤ, pos, length, Result}
 use Rattle.std.specs.Int.Signed.{lt_z}
 use Rattle.integer.specs.Order.{if}
 use Rattle.nodes.specs.Nodes.{word}
 use Rattle.nodes.specs.declared.Leaf.{Leaf}
 use Rattle.predict.specs.declared.neighbours.PredictionData.{PredictionData}
-use Rattle.refusal.specs.Paper.{Outcome, gives, refuses, paper}
-use Rattle.walk.specs.Walk.{answer_of, onward, said, walk_determined}
+use Rattle.refusal.specs.Paper.{Outcome, gives, refuses, said}
+use Rattle.refusal.specs.declared.Refusal.{Refusal}
+use Rattle.walk.specs.Walk.{answer_of, onward, walk_determined}
 use Rattle.walk.specs.declared.PredictionResult.{PredictionResult}
-use Rattle.walk.specs.declared.Walked.{Walked}
 use Rattle.flat.specs.Records.{counted, record_at}
-use Rattle.flat.specs.declared.Next.{Next}
-use Rattle.flat.specs.declared.Next.TheVariants as next
 use Rattle.flat.specs.declared.records.FlatSplit.{FlatSplit}
 use Rattle.flat.specs.declared.records.FlatLeaf.{FlatLeaf}
 use Rattle.flat.specs.declared.records.Record.{Record}
@@ -52,10 +50,6 @@ step_of cells count s place =
     (if (leb (cells_needed s) (length cells)) (gives (s.first + grandchild cells s)) (refuses 10 (pos (cells_needed s) ∷ [])))
     (refuses 4 (pos place ∷ []))
 
-abbrev pub said_next : Next → Outcome ℕ
-said_next (next.At place) = gives place
-said_next (next.Refused refusal) = paper refusal
-
 -- ---- the walk from a place on, the split records entered before counted in hops
 
 abbrev pub enter : (FlatSplit → Outcome ℕ) → (FlatLeaf → PredictionResult) → Outcome Record → ℕ → (ℕ → ℕ → Outcome PredictionResult) → Outcome PredictionResult
@@ -82,7 +76,7 @@ flat_by (gives count) words cells d wp =
 abbrev pub flat_of : List ℤ → List ℤ → PredictionData → ℤ → Outcome PredictionResult
 flat_of words cells d wp = flat_by (counted words) words cells d wp
 
--- ---- determinacy: the answer is walk's, told by its `said`
+-- ---- determinacy
 
-pub flat_determined : (words cells : List ℤ) (d : PredictionData) (wp : ℤ) (r s : Walked) → said r ≡ flat_of words cells d wp → said s ≡ flat_of words cells d wp → r ≡ s
+pub flat_determined : (words cells : List ℤ) (d : PredictionData) (wp : ℤ) (r s : Result PredictionResult Refusal) → said r ≡ flat_of words cells d wp → said s ≡ flat_of words cells d wp → r ≡ s
 flat_determined words cells d wp r s p q = walk_determined r s p q

@@ -1,25 +1,19 @@
 -- Document 01: a flat record is six 32-bit words. Split: property, value, left child's value, right child's value, first grandchild, the
 -- two children's properties as 16-bit halves, the left one low; each property is 0..255. Leaf: -1, predictor 0..13, multiplier, 0,
 -- context, and the offset in the low half of the last word, its high half 0. Anything else is 3, its place the detail.
-use Rattle.std.specs.Prelude.{Bool, ◌&&◌, List, [], ◌∷◌, ◌≡◌, refl, ℕ, ◌*◌, ◌/◌, ◌%◌, ltb, leb, eqb, ℤ, pos, ◌-ℤ◌, length, drop}
-use Rattle.std.proofs.Common.{ap}
+use Rattle.std.specs.Prelude.{Bool, ◌&&◌, List, [], ◌∷◌, ◌≡◌, ℕ, ◌*◌, ◌/◌, ◌%◌, ltb, leb, eqb, ℤ, pos, ◌-ℤ◌, length, drop, Result, Ok, Err}
 use Rattle.integer.specs.Order.{if}
 use Rattle.integer.specs.Word.{bits_of}
 use Rattle.nodes.specs.Nodes.{word, is_minus_one}
 use Rattle.predict.specs.Predictors.{numbered}
-use Rattle.predict.specs.declared.predictors.Numbered.{Numbered}
-use Rattle.predict.specs.declared.predictors.Numbered.TheVariants as numbering
-use Rattle.refusal.specs.Paper.{Outcome, gives, refuses, paper, read_back, reads_back, one_answer}
-use Rattle.flat.specs.declared.form.LeafRead.{LeafRead}
-use Rattle.flat.specs.declared.form.LeafRead.TheVariants as leaf_read
-use Rattle.flat.specs.declared.form.SplitRead.{SplitRead}
-use Rattle.flat.specs.declared.form.SplitRead.TheVariants as split_read
+use Rattle.predict.specs.declared.predictors.NoSuchPredictor.{NoSuchPredictor}
+use Rattle.predict.specs.declared.predictors.Predictor.{Predictor}
+use Rattle.refusal.specs.Paper.{Outcome, gives, refuses, said, one_result}
+use Rattle.refusal.specs.declared.Refusal.{Refusal}
 use Rattle.flat.specs.declared.records.FlatLeaf.{FlatLeaf}
 use Rattle.flat.specs.declared.records.FlatSplit.{FlatSplit}
 use Rattle.flat.specs.declared.records.Record.{Record}
 use Rattle.flat.specs.declared.records.Record.TheVariants as record'
-use Rattle.flat.specs.declared.records.RecordRead.{RecordRead}
-use Rattle.flat.specs.declared.records.RecordRead.TheVariants as read
 
 abbrev pub not_in_form : {A : Type 0} → ℕ → Outcome A
 not_in_form place = refuses 3 (pos place ∷ [])
@@ -42,10 +36,10 @@ signed_half half = if (ltb half 32768) (pos half) (pos half -ℤ pos 65536)
 
 -- ---- a leaf
 
-abbrev pub leaf_by : Numbered → List ℤ → ℕ → Outcome FlatLeaf
-leaf_by (numbering.Is p) words place =
+abbrev pub leaf_by : Result Predictor NoSuchPredictor → List ℤ → ℕ → Outcome FlatLeaf
+leaf_by (Ok p) words place =
     gives (record { predictor = p; multiplier = bits_of (word words 2); context = bits_of (word words 4); offset = signed_half (low_half (word words 5)) })
-leaf_by numbering.NoSuch words place = not_in_form place
+leaf_by (Err none) words place = not_in_form place
 
 abbrev pub is_leaf : List ℤ → Bool
 is_leaf words = eqb (bits_of (word words 3)) 0 && eqb (high_half (word words 5)) 0
@@ -82,38 +76,17 @@ split_by words place = as_record record'.Split (flat_split words place)
 unfoldable pub record_of : List ℤ → ℕ → Outcome Record
 record_of words place = if (ltb (length words) 6) (not_in_form place) (if (is_minus_one (word words 0)) (leaf_of words place) (split_by words place))
 
--- ---- the answer in the paper's terms, and determinacy
+-- ---- determinacy
 
-abbrev pub said : RecordRead → Outcome Record
-said (read.Is r) = gives r
-said (read.Refused refusal) = paper refusal
-
--- the same of a leaf alone and of a split alone, which only this crate reads
-abbrev pub said_leaf : LeafRead → Outcome FlatLeaf
-said_leaf (leaf_read.Is l) = gives l
-said_leaf (leaf_read.Refused refusal) = paper refusal
-
-abbrev pub said_split : SplitRead → Outcome FlatSplit
-said_split (split_read.Is s) = gives s
-said_split (split_read.Refused refusal) = paper refusal
-
-abbrev unsaid : Outcome Record → RecordRead
-unsaid (gives r) = read.Is r
-unsaid (refuses n ds) = read.Refused (read_back n ds)
-
-said_again : (r : RecordRead) → unsaid (said r) ≡ r
-said_again (read.Is r) = refl
-said_again (read.Refused refusal) = ap read.Refused (reads_back refusal)
-
-pub record_determined : {v : Outcome Record} (r s : RecordRead) → said r ≡ v → said s ≡ v → r ≡ s
-record_determined r s p q = one_answer said unsaid said_again r s p q
+pub record_determined : {v : Outcome Record} (r s : Result Record Refusal) → said r ≡ v → said s ≡ v → r ≡ s
+record_determined r s p q = one_result r s p q
 
 -- ---- a list of records: 1 and 2, and record k, read from its own words onward
 
 abbrev pub most_records : ℕ
 most_records = 2097149
 
--- told by nodes' `said_count`, whose `count_determined` leaves one answer
+-- nodes' `count_determined` leaves one answer
 abbrev pub counted : List ℤ → Outcome ℕ
 counted words =
     if (eqb (length words % 6) 0)

@@ -1,24 +1,12 @@
 // The form of a record whose six words are there.
 ghost use Rattle.std.specs.Prelude.{◌≡◌, ◌≤◌, ◌<◌, length};
-ghost use Rattle.flat.specs.Records.{flat_leaf, flat_split, record_of, said, said_leaf, said_split, signed_half};
+ghost use Rattle.flat.specs.Records.{flat_leaf, flat_split, record_of, signed_half};
+ghost use Rattle.refusal.specs.Paper.{said};
 
-use crate::records::{FlatLeaf, FlatSplit, Record, RecordRead};
+use crate::records::{FlatLeaf, FlatSplit, Record};
 use integer::to_bits;
-use predict::predictors::{Numbered, Predictor};
+use predict::predictors::Predictor;
 use refusal::Refusal;
-
-// A leaf and a split have enums of their own: through one enum of both, the walk would carry each record by way of memory.
-#[derive(Clone, Copy)]
-pub enum LeafRead {
-    Is(FlatLeaf),
-    Refused(Refusal),
-}
-
-#[derive(Clone, Copy)]
-pub enum SplitRead {
-    Is(FlatSplit),
-    Refused(Refusal),
-}
 
 // 16 bits as signed.
 fn signed_half(half: u32) -> i32
@@ -32,39 +20,36 @@ fn signed_half(half: u32) -> i32
     }
 }
 
-// The leaf of these words, whose first is -1.
-pub fn read_leaf(words: &[i32], place: u32) -> LeafRead
+// The leaf of these words, whose first is -1. A leaf and a split are read apart: through one enum of both, the walk would carry each record
+// by way of memory.
+pub fn read_leaf(words: &[i32], place: u32) -> Result<FlatLeaf, Refusal>
     requires { 6 ≤ length words.now }
-    ensures { said_leaf result ≡ flat_leaf words.now place }
+    ensures { said result ≡ flat_leaf words.now place }
 {
     let number = to_bits(words[1]);
     let multiplier = to_bits(words[2]);
     let none = to_bits(words[3]);
     let context = to_bits(words[4]);
     let last = to_bits(words[5]);
-    if none != 0 {
-        return LeafRead::Refused(Refusal::NotInForm { place });
-    }
-    if last / 65536 != 0 {
-        return LeafRead::Refused(Refusal::NotInForm { place });
+    if none != 0 || last / 65536 != 0 {
+        return Err(Refusal::NotInForm { place });
     }
     let offset = signed_half(last % 65536);
-    let named = Predictor::try_from(number);
-    match named {
-        Numbered::Is(predictor) => LeafRead::Is(FlatLeaf {
-            predictor,
-            multiplier,
-            context,
-            offset,
-        }),
-        Numbered::NoSuch => LeafRead::Refused(Refusal::NotInForm { place }),
-    }
+    let Ok(predictor) = Predictor::try_from(number) else {
+        return Err(Refusal::NotInForm { place });
+    };
+    Ok(FlatLeaf {
+        predictor,
+        multiplier,
+        context,
+        offset,
+    })
 }
 
 // The split of these words, whose first is not -1.
-pub fn read_split(words: &[i32], place: u32) -> SplitRead
+pub fn read_split(words: &[i32], place: u32) -> Result<FlatSplit, Refusal>
     requires { 6 ≤ length words.now }
-    ensures { said_split result ≡ flat_split words.now place }
+    ensures { said result ≡ flat_split words.now place }
 {
     let property = to_bits(words[0]);
     let value = words[1];
@@ -74,16 +59,10 @@ pub fn read_split(words: &[i32], place: u32) -> SplitRead
     let last = to_bits(words[5]);
     let left_property = last % 65536;
     let right_property = last / 65536;
-    if 255 < property {
-        return SplitRead::Refused(Refusal::NotInForm { place });
+    if 255 < property || 255 < left_property || 255 < right_property {
+        return Err(Refusal::NotInForm { place });
     }
-    if 255 < left_property {
-        return SplitRead::Refused(Refusal::NotInForm { place });
-    }
-    if 255 < right_property {
-        return SplitRead::Refused(Refusal::NotInForm { place });
-    }
-    SplitRead::Is(FlatSplit {
+    Ok(FlatSplit {
         property,
         value,
         left_value,
@@ -95,21 +74,15 @@ pub fn read_split(words: &[i32], place: u32) -> SplitRead
 }
 
 // The record at the begin of this part of a list, which has at least its six words.
-pub fn record_here(words: &[i32], place: u32) -> RecordRead
+pub fn record_here(words: &[i32], place: u32) -> Result<Record, Refusal>
     requires { 6 ≤ length words.now }
     ensures { said result ≡ record_of words.now place }
 {
     if words[0] == -1 {
-        let leaf_read = read_leaf(words, place);
-        match leaf_read {
-            LeafRead::Is(leaf) => RecordRead::Is(Record::Leaf(leaf)),
-            LeafRead::Refused(refusal) => RecordRead::Refused(refusal),
-        }
+        let leaf = read_leaf(words, place)?;
+        Ok(Record::Leaf(leaf))
     } else {
-        let split_read = read_split(words, place);
-        match split_read {
-            SplitRead::Is(split) => RecordRead::Is(Record::Split(split)),
-            SplitRead::Refused(refusal) => RecordRead::Refused(refusal),
-        }
+        let split = read_split(words, place)?;
+        Ok(Record::Split(split))
     }
 }

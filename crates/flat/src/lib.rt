@@ -4,64 +4,31 @@
 ghost use Rattle.std.specs.Prelude.{◌≡◌, ◌*◌, ◌≤◌, ◌<◌, length};
 ghost use Rattle.std.specs.Int.Signed.{lt_z};
 ghost use Rattle.flat.specs.FlatWalk.{
-  as_leaf,
   cells_needed,
   flat_from,
   flat_of,
   grandchild,
   in_order,
-  most,
-  said_next,
   step_of,
 };
 ghost use Rattle.integer.specs.Order.{if};
-ghost use Rattle.walk.specs.Walk.{answer_of, said};
+ghost use Rattle.refusal.specs.Paper.{said};
 
-use form::{LeafRead, SplitRead, read_leaf, read_split};
-use nodes::Counted;
+use form::{read_leaf, read_split};
 use predict::neighbours::PredictionData;
-use records::{FlatLeaf, FlatSplit, count_records};
+use records::{FlatSplit, count_records};
 use refusal::Refusal;
-use walk::{PredictionResult, Walked, sum};
+use walk::{PredictionResult, answer};
 
 mod form;
 pub mod records;
-
-// Where the walk goes on from a split record.
-#[derive(Clone, Copy)]
-enum Next {
-    At(usize),
-    Refused(Refusal),
-}
-
-fn answer(leaf: FlatLeaf, data: PredictionData, wp_pred: i64, hops: u32) -> PredictionResult
-    ensures { result ≡ answer_of (as_leaf «leaf») «data» wp_pred hops }
-{
-    let predictor = leaf.predictor;
-    let guess = predictor.predict_one(data, wp_pred);
-    PredictionResult {
-        guess: sum(guess, leaf.offset),
-        multiplier: leaf.multiplier,
-        context: leaf.context,
-        hops,
-    }
-}
 
 // Whether all four grandchildren lie later and inside the list.
 fn in_order(split: FlatSplit, place: usize, count: usize) -> bool
     ensures { result ≡ in_order «split» place count }
 {
     let first = split.first as usize;
-    if first <= place {
-        return false;
-    }
-    first + 3 < count
-}
-
-fn larger(a: u32, b: u32) -> u32
-    ensures { result ≡ most a b }
-{
-    if a < b { b } else { a }
+    place < first && first + 3 < count
 }
 
 // The cells that all three tests of a split record need.
@@ -69,10 +36,10 @@ fn cells_needed(split: FlatSplit) -> u32
     requires { («split».property < 256) × («split».left_property < 256) × («split».right_property < 256) }
     ensures { result ≡ cells_needed «split» }
 {
-    larger(
-        split.property,
-        larger(split.left_property, split.right_property),
-    ) + 1
+    split
+        .property
+        .max(split.left_property.max(split.right_property))
+        + 1
 }
 
 // Left holds cell > value.
@@ -96,22 +63,22 @@ fn grandchild_of(split: FlatSplit, cells: &[i32]) -> usize
 }
 
 // Where a split record leads.
-fn step(split: FlatSplit, place: usize, count: usize, cells: &[i32]) -> Next
+fn step(split: FlatSplit, place: usize, count: usize, cells: &[i32]) -> Result<usize, Refusal>
     requires { (place < 2097150) × («split».property < 256) × («split».left_property < 256) × («split».right_property < 256) }
-    ensures { said_next result ≡ step_of cells.now count «split» place }
+    ensures { said result ≡ step_of cells.now count «split» place }
 {
     let needed = cells_needed(split);
     let sound = in_order(split, place, count);
     if !sound {
-        return Next::Refused(Refusal::OutOfPlace {
+        return Err(Refusal::OutOfPlace {
             place: place as u32,
         });
     }
     if cells.len() < needed as usize {
-        return Next::Refused(Refusal::TooFewCells { needed });
+        return Err(Refusal::TooFewCells { needed });
     }
     let grandchild = grandchild_of(split, cells);
-    Next::At(split.first as usize + grandchild)
+    Ok(split.first as usize + grandchild)
 }
 
 // From record 0 down to a leaf, record after record, each read from its own six words onward.
@@ -121,7 +88,7 @@ fn walk_flat(
     cells: &[i32],
     data: PredictionData,
     wp_pred: i64,
-) -> Walked
+) -> Result<PredictionResult, Refusal>
     requires { (0 < count) × (count < 2097150) × (length words.now ≡ 6 * count) }
     ensures { said result ≡ flat_from words.now cells.now count «data» wp_pred count 0 0 }
 {
@@ -130,44 +97,30 @@ fn walk_flat(
     loop {
         let at = 6 * place;
         if words[at] == -1 {
-            let leaf_read = read_leaf(&words[at..], place as u32);
-            match leaf_read {
-                LeafRead::Refused(refusal) => break Walked::Refused(refusal),
-                LeafRead::Is(leaf) => break Walked::Is(answer(leaf, data, wp_pred, hops)),
-            }
+            let leaf = read_leaf(&words[at..], place as u32)?;
+            break Ok(answer(leaf.as_leaf(), data, wp_pred, hops));
         }
-        let split_read = read_split(&words[at..], place as u32);
-        match split_read {
-            SplitRead::Refused(refusal) => break Walked::Refused(refusal),
-            SplitRead::Is(split) => {
-                let next = step(split, place, count, cells);
-                match next {
-                    Next::Refused(refusal) => break Walked::Refused(refusal),
-                    Next::At(grandchild) => {
-                        place = grandchild;
-                        hops += 1;
-                    }
-                }
-            }
-        }
+        let split = read_split(&words[at..], place as u32)?;
+        place = step(split, place, count, cells)?;
+        hops += 1;
     }
 }
 
 // What the flat tree says of a pixel with these cells and neighbours; wp_pred is the weighted predictor's guess.
-pub fn predict_flat(words: &[i32], cells: &[i32], data: PredictionData, wp_pred: i64) -> Walked
+pub fn predict_flat(
+    words: &[i32],
+    cells: &[i32],
+    data: PredictionData,
+    wp_pred: i64,
+) -> Result<PredictionResult, Refusal>
     ensures { said result ≡ flat_of words.now cells.now «data» wp_pred }
 {
-    let counted = count_records(words);
-    match counted {
-        Counted::Refused(refusal) => Walked::Refused(refusal),
-        Counted::Nodes(count) => {
-            if count == 0 {
-                return Walked::Refused(Refusal::EmptyList);
-            }
-            if cells.len() < 16 {
-                return Walked::Refused(Refusal::TooFewCells { needed: 16 });
-            }
-            walk_flat(words, count, cells, data, wp_pred)
-        }
+    let count = count_records(words)?;
+    if count == 0 {
+        return Err(Refusal::EmptyList);
     }
+    if cells.len() < 16 {
+        return Err(Refusal::TooFewCells { needed: 16 });
+    }
+    walk_flat(words, count, cells, data, wp_pred)
 }

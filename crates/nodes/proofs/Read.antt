@@ -17,14 +17,15 @@ use Rattle.nodes.specs.declared.Leaf.{Leaf}
 use Rattle.nodes.specs.declared.Node.TheVariants as node
 use Rattle.nodes.specs.declared.Split.{Split}
 use Rattle.predict.specs.Predictors.{numbered}
-use Rattle.predict.specs.declared.predictors.Numbered.{Numbered}
-use Rattle.predict.specs.declared.predictors.Numbered.TheVariants as numbering
+use Rattle.predict.specs.declared.predictors.NoSuchPredictor.{NoSuchPredictor}
+use Rattle.predict.specs.declared.predictors.Predictor.{Predictor}
+use Rattle.std.proofs.Common.{Result, Ok, Err}
 use Rattle.refusal.proofs.Outcomes.{no_refusal}
 use Rattle.refusal.specs.Paper.{gives}
 
-no_leaf : {s : Split} (number : Numbered) (words : List ℤ) (place : ℕ) → leaf_by number words place ≡ gives (node.Split s) → ⊥
-no_leaf (numbering.Is p) words place e = let z : ◌≡◌ {A = ℕ} 0 1 = cc in omega arith
-no_leaf numbering.NoSuch words place e = no_refusal e
+no_leaf : {s : Split} (number : Result Predictor NoSuchPredictor) (words : List ℤ) (place : ℕ) → leaf_by number words place ≡ gives (node.Split s) → ⊥
+no_leaf (Ok p) words place e = let z : ◌≡◌ {A = ℕ} 0 1 = cc in omega arith
+no_leaf (Err none) words place e = no_refusal e
 
 property_by : {s : Split} (words : List ℤ) (place : ℕ) (short leaf split : Bool) → is_split words ≡ split
     → if short (not_in_form place) (if leaf (leaf_of words place) (if split (gives (split_of words)) (not_in_form place))) ≡ gives (node.Split s)
@@ -41,15 +42,15 @@ unfolding node_of
 property_small words place split = property_by words place (ltb (length words) 5) (is_minus_one (word words 0)) (is_split words) refl split
 
 -- multiplier and id of a leaf that was read are patterns of 32 bits
-patterns_by : {l : Leaf} (words : List ℤ) (place : ℕ) (short leaf split : Bool) (number : Numbered)
+patterns_by : {l : Leaf} (words : List ℤ) (place : ℕ) (short leaf split : Bool) (number : Result Predictor NoSuchPredictor)
     → if short (not_in_form place) (if leaf (leaf_by number words place) (if split (gives (split_of words)) (not_in_form place))) ≡ gives (node.Leaf l)
     → (l.multiplier < 2 ^ 32) × (l.id < 2 ^ 32)
 patterns_by words place true leaf split number e = absurd (no_refusal e)
-patterns_by {l} words place false true split (numbering.Is p) e =
+patterns_by {l} words place false true split (Ok p) e =
     let one : bits_of (word words 3) ≡ l.multiplier = cc in
     let other : bits_of (word words 4) ≡ l.id = cc in
     (omega (arith, one, (bits_fit (word words 3)).fits), omega (arith, other, (bits_fit (word words 4)).fits))
-patterns_by words place false true split numbering.NoSuch e = absurd (no_refusal e)
+patterns_by words place false true split (Err none) e = absurd (no_refusal e)
 patterns_by words place false false true number e = let z : ◌≡◌ {A = ℕ} 0 1 = cc in absurd (omega arith)
 patterns_by words place false false false number e = absurd (no_refusal e)
 

@@ -1,15 +1,13 @@
 -- The mask of the properties that a list's splits test: document 01, module 5. Tests 1, 2 and 3 only, so children may lie anywhere.
-use Rattle.std.specs.Prelude.{Bool, true, ◌&&◌, ◌||◌, List, ◌≡◌, refl, ℕ, zero, suc, ◌/◌, ◌%◌, ◌^◌, ◌<◌, leb, eqb, ℤ}
-use Rattle.std.proofs.Common.{ap}
+use Rattle.std.specs.Prelude.{Bool, true, ◌&&◌, ◌||◌, List, ◌≡◌, ℕ, zero, suc, ◌/◌, ◌%◌, ◌^◌, ◌<◌, leb, eqb, ℤ, Result}
 use Rattle.std.specs.Int.Bits.{bit_or}
 use Rattle.integer.specs.Order.{if}
-use Rattle.refusal.specs.Paper.{Outcome, gives, refuses, paper, read_back, reads_back, one_answer}
+use Rattle.refusal.specs.Paper.{Outcome, gives, refuses, said, one_result}
+use Rattle.refusal.specs.declared.Refusal.{Refusal}
 use Rattle.nodes.specs.Nodes.{counted, node_at}
 use Rattle.nodes.specs.declared.Split.{Split}
 use Rattle.nodes.specs.declared.Node.{Node}
 use Rattle.nodes.specs.declared.Node.TheVariants as node
-use Rattle.nodes.specs.declared.mask.Masked.{Masked}
-use Rattle.nodes.specs.declared.mask.Masked.TheVariants as mask
 
 abbrev pub eight_or_nine : ℕ → Bool
 eight_or_nine n = eqb n 8 || eqb n 9
@@ -58,19 +56,7 @@ pub record Tested (words : List ℤ) (n b : ℕ) : Type 0 where
   pub is : node_at words place ≡ gives (node.Split split)
   pub sets : includes split.property b ≡ true
 
--- ---- the answer in the paper's terms, and determinacy
+-- ---- determinacy
 
-abbrev pub said : Masked → Outcome ℕ
-said (mask.Is bits) = gives bits
-said (mask.Refused refusal) = paper refusal
-
-abbrev unsaid : Outcome ℕ → Masked
-unsaid (gives bits) = mask.Is bits
-unsaid (refuses n ds) = mask.Refused (read_back n ds)
-
-said_again : (r : Masked) → unsaid (said r) ≡ r
-said_again (mask.Is bits) = refl
-said_again (mask.Refused refusal) = ap mask.Refused (reads_back refusal)
-
-pub mask_determined : {v : Outcome ℕ} (r s : Masked) → said r ≡ v → said s ≡ v → r ≡ s
-mask_determined r s p q = one_answer said unsaid said_again r s p q
+pub mask_determined : {v : Outcome ℕ} (r s : Result ℕ Refusal) → said r ≡ v → said s ≡ v → r ≡ s
+mask_determined r s p q = one_result r s p q

@@ -1,19 +1,15 @@
 -- Document 01: a node is five 32-bit words. Split: property 0..255, value, left, right, 0. Leaf: -1, predictor 0..13, offset, multiplier,
 -- id; the last two are unsigned bit patterns, any value. Anything else is 3, its place the detail.
-use Rattle.std.specs.Prelude.{Bool, ◌&&◌, List, [], ◌∷◌, ◌≡◌, refl, ℕ, ◌*◌, ◌/◌, ◌%◌, ltb, leb, eqb, ℤ, pos, length, get_or, drop}
-use Rattle.std.proofs.Common.{ap}
+use Rattle.std.specs.Prelude.{Bool, ◌&&◌, List, [], ◌∷◌, ◌≡◌, ℕ, ◌*◌, ◌/◌, ◌%◌, ltb, leb, eqb, ℤ, pos, length, get_or, drop, Result, Ok, Err}
 use Rattle.integer.specs.Order.{if}
 use Rattle.integer.specs.Word.{bits_of}
 use Rattle.predict.specs.Predictors.{numbered}
-use Rattle.predict.specs.declared.predictors.Numbered.{Numbered}
-use Rattle.predict.specs.declared.predictors.Numbered.TheVariants as numbering
-use Rattle.refusal.specs.Paper.{Outcome, gives, refuses, paper, read_back, reads_back, one_answer}
+use Rattle.predict.specs.declared.predictors.NoSuchPredictor.{NoSuchPredictor}
+use Rattle.predict.specs.declared.predictors.Predictor.{Predictor}
+use Rattle.refusal.specs.Paper.{Outcome, gives, refuses, said, one_result}
+use Rattle.refusal.specs.declared.Refusal.{Refusal}
 use Rattle.nodes.specs.declared.Node.{Node}
 use Rattle.nodes.specs.declared.Node.TheVariants as node
-use Rattle.nodes.specs.declared.NodeRead.{NodeRead}
-use Rattle.nodes.specs.declared.NodeRead.TheVariants as read
-use Rattle.nodes.specs.declared.Counted.{Counted}
-use Rattle.nodes.specs.declared.Counted.TheVariants as count
 
 abbrev pub word : List ℤ → ℕ → ℤ
 word words i = get_or words i (pos 0)
@@ -23,10 +19,10 @@ not_in_form place = refuses 3 (pos place ∷ [])
 
 -- ---- a leaf: its predictor has a number of 0..13
 
-abbrev pub leaf_by : Numbered → List ℤ → ℕ → Outcome Node
-leaf_by (numbering.Is p) words place =
+abbrev pub leaf_by : Result Predictor NoSuchPredictor → List ℤ → ℕ → Outcome Node
+leaf_by (Ok p) words place =
     gives (node.Leaf (record { predictor = p; offset = word words 2; multiplier = bits_of (word words 3); id = bits_of (word words 4) }))
-leaf_by numbering.NoSuch words place = not_in_form place
+leaf_by (Err none) words place = not_in_form place
 
 abbrev pub leaf_of : List ℤ → ℕ → Outcome Node
 leaf_of words place = leaf_by (numbered (bits_of (word words 1))) words place
@@ -47,22 +43,8 @@ node_of words place =
     if (ltb (length words) 5) (not_in_form place)
     (if (is_minus_one (word words 0)) (leaf_of words place) (if (is_split words) (gives (split_of words)) (not_in_form place)))
 
--- ---- the answer in the paper's terms, and determinacy
-
-abbrev pub said : NodeRead → Outcome Node
-said (read.Is n) = gives n
-said (read.Refused refusal) = paper refusal
-
-abbrev unsaid : Outcome Node → NodeRead
-unsaid (gives n) = read.Is n
-unsaid (refuses n ds) = read.Refused (read_back n ds)
-
-said_again : (r : NodeRead) → unsaid (said r) ≡ r
-said_again (read.Is n) = refl
-said_again (read.Refused refusal) = ap read.Refused (reads_back refusal)
-
-pub node_determined : {v : Outcome Node} (r s : NodeRead) → said r ≡ v → said s ≡ v → r ≡ s
-node_determined r s p q = one_answer said unsaid said_again r s p q
+pub node_determined : {v : Outcome Node} (r s : Result Node Refusal) → said r ≡ v → said s ≡ v → r ≡ s
+node_determined r s p q = one_result r s p q
 
 -- ---- a list of nodes: 1 and 2, and node k, read from its own words onward
 
@@ -75,20 +57,8 @@ counted words =
     (if (leb (length words / 5) most_nodes) (gives (length words / 5)) (refuses 2 (pos 0 ∷ [])))
     (refuses 1 (pos 0 ∷ []))
 
-abbrev pub said_count : Counted → Outcome ℕ
-said_count (count.Nodes n) = gives n
-said_count (count.Refused refusal) = paper refusal
-
-abbrev unsaid_count : Outcome ℕ → Counted
-unsaid_count (gives n) = count.Nodes n
-unsaid_count (refuses n ds) = count.Refused (read_back n ds)
-
-count_again : (r : Counted) → unsaid_count (said_count r) ≡ r
-count_again (count.Nodes n) = refl
-count_again (count.Refused refusal) = ap count.Refused (reads_back refusal)
-
-pub count_determined : {v : Outcome ℕ} (r s : Counted) → said_count r ≡ v → said_count s ≡ v → r ≡ s
-count_determined r s p q = one_answer said_count unsaid_count count_again r s p q
+pub count_determined : {v : Outcome ℕ} (r s : Result ℕ Refusal) → said r ≡ v → said s ≡ v → r ≡ s
+count_determined r s p q = one_result r s p q
 
 abbrev pub node_at : List ℤ → ℕ → Outcome Node
 node_at words k = node_of (drop (5 * k) words) k

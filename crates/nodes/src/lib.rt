@@ -2,16 +2,17 @@
 #![tactic(auto)]
 
 ghost use Rattle.std.specs.Prelude.{◌≡◌, ◌≤◌, length};
-ghost use Rattle.nodes.specs.Nodes.{counted, leaf_of, node_of, said, said_count};
+ghost use Rattle.nodes.specs.Nodes.{counted, leaf_of, node_of};
+ghost use Rattle.refusal.specs.Paper.{said};
 
 use integer::to_bits;
-use predict::predictors::{Numbered, Predictor};
+use predict::predictors::Predictor;
 use refusal::Refusal;
 
 pub mod mask;
 
 // Left holds cell > value.
-#[derive(Clone, Copy)]
+#[derive(Clone, Copy, Debug, PartialEq, Eq)]
 pub struct Split {
     pub property: u32,
     pub value: i32,
@@ -19,7 +20,7 @@ pub struct Split {
     pub right: u32,
 }
 
-#[derive(Clone, Copy)]
+#[derive(Clone, Copy, Debug, PartialEq, Eq)]
 pub struct Leaf {
     pub predictor: Predictor,
     pub offset: i32,
@@ -27,26 +28,14 @@ pub struct Leaf {
     pub id: u32,
 }
 
-#[derive(Clone, Copy)]
+#[derive(Clone, Copy, Debug, PartialEq, Eq)]
 pub enum Node {
     Split(Split),
     Leaf(Leaf),
 }
 
-#[derive(Clone, Copy)]
-pub enum NodeRead {
-    Is(Node),
-    Refused(Refusal),
-}
-
-#[derive(Clone, Copy)]
-pub enum Counted {
-    Nodes(usize),
-    Refused(Refusal),
-}
-
 // The leaf of these words, whose first is -1.
-fn read_leaf(words: &[i32], place: u32) -> NodeRead
+fn read_leaf(words: &[i32], place: u32) -> Result<Node, Refusal>
     requires { 5 ≤ length words.now }
     ensures { said result ≡ leaf_of words.now place }
 {
@@ -54,24 +43,23 @@ fn read_leaf(words: &[i32], place: u32) -> NodeRead
     let offset = words[2];
     let multiplier = to_bits(words[3]);
     let id = to_bits(words[4]);
-    let named = Predictor::try_from(number);
-    match named {
-        Numbered::Is(predictor) => NodeRead::Is(Node::Leaf(Leaf {
-            predictor,
-            offset,
-            multiplier,
-            id,
-        })),
-        Numbered::NoSuch => NodeRead::Refused(Refusal::NotInForm { place }),
-    }
+    let Ok(predictor) = Predictor::try_from(number) else {
+        return Err(Refusal::NotInForm { place });
+    };
+    Ok(Node::Leaf(Leaf {
+        predictor,
+        offset,
+        multiplier,
+        id,
+    }))
 }
 
 // The node at the begin of this part of a list, whose place in the list is told.
-pub fn read_node(words: &[i32], place: u32) -> NodeRead
+pub fn read_node(words: &[i32], place: u32) -> Result<Node, Refusal>
     ensures { said result ≡ node_of words.now place }
 {
     if words.len() < 5 {
-        return NodeRead::Refused(Refusal::NotInForm { place });
+        return Err(Refusal::NotInForm { place });
     }
     let first = words[0];
     if first == -1 {
@@ -79,15 +67,15 @@ pub fn read_node(words: &[i32], place: u32) -> NodeRead
     }
     let property = to_bits(first);
     if 255 < property {
-        return NodeRead::Refused(Refusal::NotInForm { place });
+        return Err(Refusal::NotInForm { place });
     }
     if words[4] != 0 {
-        return NodeRead::Refused(Refusal::NotInForm { place });
+        return Err(Refusal::NotInForm { place });
     }
     let value = words[1];
     let left = to_bits(words[2]);
     let right = to_bits(words[3]);
-    NodeRead::Is(Node::Split(Split {
+    Ok(Node::Split(Split {
         property,
         value,
         left,
@@ -96,15 +84,15 @@ pub fn read_node(words: &[i32], place: u32) -> NodeRead
 }
 
 // How many nodes a list has: at most 1,048,575, of five words each.
-pub fn count_nodes(words: &[i32]) -> Counted
-    ensures { said_count result ≡ counted words.now }
+pub fn count_nodes(words: &[i32]) -> Result<usize, Refusal>
+    ensures { said result ≡ counted words.now }
 {
     if words.len() % 5 != 0 {
-        return Counted::Refused(Refusal::WordCount);
+        return Err(Refusal::WordCount);
     }
     let nodes = words.len() / 5;
     if 1048575 < nodes {
-        return Counted::Refused(Refusal::TooMany);
+        return Err(Refusal::TooMany);
     }
-    Counted::Nodes(nodes)
+    Ok(nodes)
 }

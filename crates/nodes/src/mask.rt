@@ -1,15 +1,10 @@
 // The mask of the properties that the splits of a list test, so that only those cells are filled.
 ghost use Rattle.std.specs.Prelude.{◌≡◌, ◌*◌, ◌≤◌, length};
-ghost use Rattle.nodes.specs.Mask.{bits_for, bits_of_node, mask_up_to, mask_of, said};
+ghost use Rattle.nodes.specs.Mask.{bits_for, bits_of_node, mask_up_to, mask_of};
+ghost use Rattle.refusal.specs.Paper.{said};
 
-use crate::{Counted, Node, NodeRead, count_nodes, read_node};
+use crate::{Node, count_nodes, read_node};
 use refusal::Refusal;
-
-#[derive(Clone, Copy)]
-pub enum Masked {
-    Is(u32),
-    Refused(Refusal),
-}
 
 // The bits of one property: 8 and 9 go together, and one from 32 on has no bit of its own, so it sets all.
 fn bits_for(property: u32) -> u32
@@ -34,34 +29,22 @@ fn bits_of_node(node: Node) -> u32
 }
 
 // Node after node, each read from its own words onward.
-fn mask_of(words: &[i32], nodes: usize) -> Masked
+fn mask_of(words: &[i32], nodes: usize) -> Result<u32, Refusal>
     requires { (5 * nodes ≤ length words.now) × (nodes ≤ 1048575) }
     ensures { said result ≡ mask_up_to words.now nodes }
 {
     let mut mask: u32 = 0;
-    let mut k = 0;
-    while k < nodes {
-        let read = read_node(&words[5 * k..], k as u32);
-        match read {
-            NodeRead::Is(node) => {
-                mask |= bits_of_node(node);
-            }
-            NodeRead::Refused(refusal) => {
-                return Masked::Refused(refusal);
-            }
-        }
-        k += 1;
+    for k in 0..nodes {
+        let node = read_node(&words[5 * k..], k as u32)?;
+        mask |= bits_of_node(node);
     }
-    Masked::Is(mask)
+    Ok(mask)
 }
 
 // Which properties the splits test. Children are not tested.
-pub fn compute_used_property_mask(words: &[i32]) -> Masked
+pub fn compute_used_property_mask(words: &[i32]) -> Result<u32, Refusal>
     ensures { said result ≡ mask_of words.now }
 {
-    let counted = count_nodes(words);
-    match counted {
-        Counted::Nodes(nodes) => mask_of(words, nodes),
-        Counted::Refused(refusal) => Masked::Refused(refusal),
-    }
+    let nodes = count_nodes(words)?;
+    mask_of(words, nodes)
 }

@@ -11,13 +11,14 @@ use Prim.Native.Nat.{ℕ, suc, ◌+◌, ◌*◌, ◌≤◌}
 use Rattle.integer.specs.Word.{bits_of}
 use Rattle.nodes.specs.Nodes.{leaf_by, node_of, node_at}
 use Rattle.predict.specs.Predictors.{numbered}
-use Rattle.predict.specs.declared.predictors.Numbered.{Numbered}
-use Rattle.predict.specs.declared.predictors.Numbered.TheVariants as numbering
+use Rattle.predict.specs.declared.predictors.NoSuchPredictor.{NoSuchPredictor}
+use Rattle.predict.specs.declared.predictors.Predictor.{Predictor}
+use Rattle.std.proofs.Common.{Result, Ok, Err}
 
 module _ (a b c d e : ℤ) (rest : List ℤ) (place : ℕ) where
-  leaf_five : (number : Numbered) → leaf_by number (a ∷ b ∷ c ∷ d ∷ e ∷ []) place ≡ leaf_by number (a ∷ b ∷ c ∷ d ∷ e ∷ rest) place
-  leaf_five (numbering.Is p) = refl
-  leaf_five numbering.NoSuch = refl
+  leaf_five : (number : Result Predictor NoSuchPredictor) → leaf_by number (a ∷ b ∷ c ∷ d ∷ e ∷ []) place ≡ leaf_by number (a ∷ b ∷ c ∷ d ∷ e ∷ rest) place
+  leaf_five (Ok p) = refl
+  leaf_five (Err none) = refl
 
 five : (words : List ℤ) (place : ℕ) → 5 ≤ length words → node_of (take 5 words) place ≡ node_of words place
 unfolding node_of

@@ -1,7 +1,6 @@
 -- Module 8 of document 01, the direct walk: from the root down to a leaf, left holding cell > value. It tests 1, 2, 5, then 16
 -- cells (10), then only the nodes it enters, at each 3, 4, 10.
-use Rattle.std.specs.Prelude.{Bool, ◌&&◌, List, [], ◌∷◌, ◌≡◌, refl, ℕ, zero, suc, ◌+◌, ltb, eqb, ℤ, pos, ◌+ℤ◌, length}
-use Rattle.std.proofs.Common.{ap}
+use Rattle.std.specs.Prelude.{Bool, ◌&&◌, List, [], ◌∷◌, ◌≡◌, ℕ, zero, suc, ◌+◌, ltb, eqb, ℤ, pos, ◌+ℤ◌, length, Result}
 use Rattle.std.specs.Int.Signed.{lt_z}
 use Rattle.integer.specs.Order.{if}
 use Rattle.nodes.specs.Nodes.{word, node_at, counted}
@@ -11,13 +10,10 @@ use Rattle.nodes.specs.declared.Node.TheVariants as node
 use Rattle.nodes.specs.declared.Split.{Split}
 use Rattle.predict.specs.Predictors.{guess}
 use Rattle.predict.specs.declared.neighbours.PredictionData.{PredictionData}
-use Rattle.refusal.specs.Paper.{Outcome, gives, refuses, paper, read_back, reads_back, one_answer}
+use Rattle.refusal.specs.Paper.{Outcome, gives, refuses, said, one_result}
+use Rattle.refusal.specs.declared.Refusal.{Refusal}
 use Rattle.walk.specs.Wide.{wrap64}
-use Rattle.walk.specs.declared.Next.{Next}
-use Rattle.walk.specs.declared.Next.TheVariants as next
 use Rattle.walk.specs.declared.PredictionResult.{PredictionResult}
-use Rattle.walk.specs.declared.Walked.{Walked}
-use Rattle.walk.specs.declared.Walked.TheVariants as walked
 
 -- ---- a leaf: guess plus offset wraps at 64 bits; hops is how many splits were entered before it
 
@@ -73,23 +69,7 @@ walk_by (gives n) words cells d wp =
 abbrev pub walk_of : List ℤ → List ℤ → PredictionData → ℤ → Outcome PredictionResult
 walk_of words cells d wp = walk_by (counted words) words cells d wp
 
--- ---- the answer in the paper's terms, and determinacy
+-- ---- determinacy
 
-abbrev pub said : Walked → Outcome PredictionResult
-said (walked.Is result) = gives result
-said (walked.Refused refusal) = paper refusal
-
-abbrev unsaid : Outcome PredictionResult → Walked
-unsaid (gives result) = walked.Is result
-unsaid (refuses n ds) = walked.Refused (read_back n ds)
-
-said_again : (r : Walked) → unsaid (said r) ≡ r
-said_again (walked.Is result) = refl
-said_again (walked.Refused refusal) = ap walked.Refused (reads_back refusal)
-
-pub walk_determined : {v : Outcome PredictionResult} (r s : Walked) → said r ≡ v → said s ≡ v → r ≡ s
-walk_determined r s p q = one_answer said unsaid said_again r s p q
-
-abbrev pub said_next : Next → Outcome ℕ
-said_next (next.At place) = gives place
-said_next (next.Refused refusal) = paper refusal
+pub walk_determined : {v : Outcome PredictionResult} (r s : Result PredictionResult Refusal) → said r ≡ v → said s ≡ v → r ≡ s
+walk_determined r s p q = one_result r s p q

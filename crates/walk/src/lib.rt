@@ -2,34 +2,21 @@
 #![tactic(auto)]
 
 ghost use Rattle.std.specs.Prelude.{◌≡◌, ◌*◌, ◌<◌, ◌+ℤ◌, length};
-ghost use Rattle.walk.specs.Walk.{answer_of, in_order, step_of, walk_from, walk_of, said, said_next};
+ghost use Rattle.walk.specs.Walk.{answer_of, in_order, step_of, walk_from, walk_of};
 ghost use Rattle.walk.specs.Wide.{wrap64};
+ghost use Rattle.refusal.specs.Paper.{said};
 
-use integer::widen;
-use nodes::{Counted, Leaf, Node, NodeRead, Split, count_nodes, read_node};
+use nodes::{Leaf, Node, Split, count_nodes, read_node};
 use predict::neighbours::PredictionData;
 use refusal::Refusal;
 
 // The context is the leaf's id; hops is how many splits were entered.
-#[derive(Clone, Copy)]
+#[derive(Clone, Copy, Debug, PartialEq, Eq)]
 pub struct PredictionResult {
     pub guess: i64,
     pub multiplier: u32,
     pub context: u32,
     pub hops: u32,
-}
-
-#[derive(Clone, Copy)]
-pub enum Walked {
-    Is(PredictionResult),
-    Refused(Refusal),
-}
-
-// Where the walk goes on from a split.
-#[derive(Clone, Copy)]
-enum Next {
-    At(usize),
-    Refused(Refusal),
 }
 
 // a + b, wrapping at 64 bits: where the sum would not fit, each of the two is moved by 2^63 first, 2^64 in all.
@@ -53,7 +40,7 @@ fn wrapping_sum(a: i64, b: i64) -> i64
 pub fn sum(guess: i64, offset: i32) -> i64
     ensures { result ≡ wrap64 (guess +ℤ offset) }
 {
-    let wide = widen(offset);
+    let wide = offset as i64;
     if guess < -4611686018427387904 {
         return wrapping_sum(guess, wide);
     }
@@ -63,8 +50,9 @@ pub fn sum(guess: i64, offset: i32) -> i64
     guess + wide
 }
 
-// A leaf's answer.
-fn answer(leaf: Leaf, data: PredictionData, wp_pred: i64, hops: u32) -> PredictionResult
+// A leaf's answer. Inlined into each walk: called, it would carry the leaf and the neighbours by way of memory.
+#[inline(always)]
+pub fn answer(leaf: Leaf, data: PredictionData, wp_pred: i64, hops: u32) -> PredictionResult
     ensures { result ≡ answer_of «leaf» «data» wp_pred hops }
 {
     let predictor = leaf.predictor;
@@ -83,40 +71,40 @@ fn in_order(split: Split, place: usize, n: usize) -> bool
 {
     let left = split.left as usize;
     let right = split.right as usize;
-    if left <= place {
-        return false;
-    }
-    if right != left + 1 {
-        return false;
-    }
-    right < n
+    place < left && right == left + 1 && right < n
 }
 
 // The child to enter: left holds cell > value.
-fn step(split: Split, place: usize, n: usize, cells: &[i32]) -> Next
+fn step(split: Split, place: usize, n: usize, cells: &[i32]) -> Result<usize, Refusal>
     requires { (place < 1048576) × («split».property < 256) }
-    ensures { said_next result ≡ step_of cells.now n «split» place }
+    ensures { said result ≡ step_of cells.now n «split» place }
 {
     let property = split.property as usize;
     if !in_order(split, place, n) {
-        return Next::Refused(Refusal::OutOfPlace {
+        return Err(Refusal::OutOfPlace {
             place: place as u32,
         });
     }
     if cells.len() <= property {
-        return Next::Refused(Refusal::TooFewCells {
+        return Err(Refusal::TooFewCells {
             needed: split.property + 1,
         });
     }
     if cells[property] > split.value {
-        Next::At(split.left as usize)
+        Ok(split.left as usize)
     } else {
-        Next::At(split.right as usize)
+        Ok(split.right as usize)
     }
 }
 
 // From the root down to a leaf, node after node, each read from its own five words.
-fn walk(words: &[i32], n: usize, cells: &[i32], data: PredictionData, wp_pred: i64) -> Walked
+fn walk(
+    words: &[i32],
+    n: usize,
+    cells: &[i32],
+    data: PredictionData,
+    wp_pred: i64,
+) -> Result<PredictionResult, Refusal>
     requires { (0 < n) × (n < 1048576) × (length words.now ≡ 5 * n) }
     ensures { said result ≡ walk_from words.now cells.now n «data» wp_pred n 0 0 }
 {
@@ -124,41 +112,32 @@ fn walk(words: &[i32], n: usize, cells: &[i32], data: PredictionData, wp_pred: i
     let mut hops: u32 = 0;
     loop {
         let at = 5 * place;
-        let read = read_node(&words[at..at + 5], place as u32);
-        match read {
-            NodeRead::Refused(refusal) => break Walked::Refused(refusal),
-            NodeRead::Is(node) => match node {
-                Node::Leaf(leaf) => break Walked::Is(answer(leaf, data, wp_pred, hops)),
-                Node::Split(split) => {
-                    let next = step(split, place, n, cells);
-                    match next {
-                        Next::Refused(refusal) => break Walked::Refused(refusal),
-                        Next::At(child) => {
-                            place = child;
-                            hops += 1;
-                        }
-                    }
-                }
-            },
+        let node = read_node(&words[at..at + 5], place as u32)?;
+        match node {
+            Node::Leaf(leaf) => break Ok(answer(leaf, data, wp_pred, hops)),
+            Node::Split(split) => {
+                place = step(split, place, n, cells)?;
+                hops += 1;
+            }
         }
     }
 }
 
 // What the tree says of a pixel with these cells and neighbours; wp_pred is the weighted predictor's guess.
-pub fn predict(words: &[i32], cells: &[i32], data: PredictionData, wp_pred: i64) -> Walked
+pub fn predict(
+    words: &[i32],
+    cells: &[i32],
+    data: PredictionData,
+    wp_pred: i64,
+) -> Result<PredictionResult, Refusal>
     ensures { said result ≡ walk_of words.now cells.now «data» wp_pred }
 {
-    let counted = count_nodes(words);
-    match counted {
-        Counted::Refused(refusal) => Walked::Refused(refusal),
-        Counted::Nodes(n) => {
-            if n == 0 {
-                return Walked::Refused(Refusal::EmptyList);
-            }
-            if cells.len() < 16 {
-                return Walked::Refused(Refusal::TooFewCells { needed: 16 });
-            }
-            walk(words, n, cells, data, wp_pred)
-        }
+    let n = count_nodes(words)?;
+    if n == 0 {
+        return Err(Refusal::EmptyList);
     }
+    if cells.len() < 16 {
+        return Err(Refusal::TooFewCells { needed: 16 });
+    }
+    walk(words, n, cells, data, wp_pred)
 }
