@@ -15,23 +15,20 @@ use Rattle.nodes.specs.Nodes.{node_at, then, counted}
 use Rattle.nodes.specs.declared.Node.{Node}
 use Rattle.nodes.specs.declared.Node.TheVariants as node
 use Rattle.predict.specs.declared.neighbours.PredictionData.{PredictionData}
-use Rattle.refusal.specs.Paper.{Outcome, gives}
+use Rattle.refusal.specs.Paper.{Outcome, gives, said, one_result}
+use Rattle.refusal.specs.declared.Refusal.{Refusal}
+use Rattle.std.proofs.Common.{Result, Ok}
 use Rattle.validation.proofs.Sound.{both_given, node_there}
 use Rattle.validation.proofs.ToDo.{nodes, Sound, sound_list}
 use Rattle.validation.specs.Shape.{shape, shape_of}
-use Rattle.validation.specs.Validation.{Validates}
-use Rattle.validation.specs.declared.Verdict.TheVariants.{Accepted}
+use Rattle.validation.specs.Validation.{validation}
 use Rattle.walk.specs.Walk.{answer_of, walk_of, walk_by, walk_determined}
-use Rattle.walk.specs.Walk as walking
-use Rattle.walk.specs.declared.Walked.{Walked}
-use Rattle.walk.specs.declared.Walked.TheVariants as walked
+use Rattle.walk.specs.declared.PredictionResult.{PredictionResult}
 use Rattle.flat.specs.FlatWalk.{flat_of}
-use Rattle.flatten.specs.Flatten.{ring_needed, output_needed, flattening, flattening_of, output_after, Flattens, flattens_determined}
+use Rattle.flatten.specs.Flatten.{ring_needed, output_needed, flattening, flattening_of, output_after}
 use Rattle.flatten.specs.Offsets.{judged, offset_of, first_wide}
 use Rattle.flatten.specs.Queue.{record_count}
 use Rattle.flatten.specs.Records.{record_words}
-use Rattle.flatten.specs.declared.Flattened.{Flattened}
-use Rattle.flatten.specs.declared.Flattened.TheVariants as flattening'
 use Rattle.flatten.proofs.Flat.{words_long}
 use Rattle.agreement.specs.Covers.{Covers, EndsAt, OffsetsFit}
 use Rattle.agreement.proofs.Agree.{agree}
@@ -56,18 +53,18 @@ module _ (words : List ℤ) (n : ℕ) (sound : shape_of words n ≡ gives tt) (s
 
 -- ---- the theorem
 
-pub record BothWalks (words cells : List ℤ) (d : PredictionData) (wp : ℤ) (r : Flattened) (direct flatly : Walked) : Type 0 where
+pub record BothWalks (words cells : List ℤ) (d : PredictionData) (wp : ℤ) (r : Result ℕ Refusal) (direct flatly : Result PredictionResult Refusal) : Type 0 where
   pub end : EndsAt words (nodes words) cells
-  pub flattens : r ≡ flattening'.Records (record_count words (nodes words))
-  pub walks : direct ≡ walked.Is (answer_of end.leaf d wp end.depth)
-  pub walks_flat : flatly ≡ walked.Is (answer_of end.leaf d wp ((end.depth + 1) / 2))
+  pub flattens : r ≡ Ok (record_count words (nodes words))
+  pub walks : direct ≡ Ok (answer_of end.leaf d wp end.depth)
+  pub walks_flat : flatly ≡ Ok (answer_of end.leaf d wp ((end.depth + 1) / 2))
 
 -- For an accepted list that is not empty, whose offsets fit 16 bits, with a ring and an output that are large enough and cells that cover its
 -- properties: flattening gives its records, the direct walk over the nodes and the flat walk over those records are not refused, and
 -- both end at one leaf, so with equal guess, multiplier and context; where that lies at depth d, after d hops and after d/2 rounded up.
-module _ {words work work' : List ℤ} (accepted : Validates words work Accepted work') (some : 0 < length words) where
+module _ (words work : List ℤ) (accepted : said {A = Unit} (Ok tt) ≡ validation words (length work)) (some : 0 < length words) where
   accepted_shape : shape words ≡ gives tt
-  accepted_shape = (both_given (shape words) _ (sym accepted.answers)).0
+  accepted_shape = (both_given (shape words) _ (sym accepted)).0
 
   pub sound : Sound words
   sound = sound_list words (accepted_shape, some)
@@ -77,8 +74,7 @@ module _ {words work work' : List ℤ} (accepted : Validates words work Accepted
       let even : length words % 5 ≡ 0 = omega (arith, sound.whole) in
       simp (eq-eqb _ _ even, le-leb (nodes words) 1048575 sound.few)
 
-  module _ {ring output ring' output' : List ℤ} {r : Flattened} (flattens : Flattens words ring output r ring' output') (offsets : OffsetsFit words (nodes words))
-      (ring_room : ring_needed (nodes words) ≤ length ring) (output_room : output_needed (nodes words) ≤ length output) where
+  module _ (ring output : List ℤ) (offsets : OffsetsFit words (nodes words)) (ring_room : ring_needed (nodes words) ≤ length ring) (output_room : output_needed (nodes words) ≤ length output) where
     gives_records : flattening words (length ring) (length output) ≡ gives (record_count words (nodes words))
     gives_records =
         let there = ne_eqb (length words) 0 (λ e. omega (arith, e)) in
@@ -90,23 +86,27 @@ module _ {words work work' : List ℤ} (accepted : Validates words work Accepted
         ∙ rw there rest
 
     -- what the flat walk is lent: the records that were written
-    records_lent : take (6 * record_count words (nodes words)) output' ≡ record_words words (record_count words (nodes words))
-    records_lent =
+    records_lent : {output' : List ℤ} → output' ≡ output_after (flattening words (length ring) (length output)) words output
+        → take (6 * record_count words (nodes words)) output' ≡ record_words words (record_count words (nodes words))
+    records_lent writes =
         let count = record_count words (nodes words) in
-        ap (take (6 * count)) (flattens.writes ∙ ap (λ (o : Outcome ℕ). output_after o words output) gives_records)
+        ap (take (6 * count)) (writes ∙ ap (λ (o : Outcome ℕ). output_after o words output) gives_records)
         ∙ take_at (record_words words count) (drop (6 * count) output) (6 * count) (words_long words (nodes words) sound.shaped sound.some count (omega arith))
 
-    pub demand_3 : {cells : List ℤ} {d : PredictionData} {wp : ℤ} {direct flatly : Walked} → Covers words (nodes words) cells
-        → walking.said direct ≡ walk_of words cells d wp
-        → walking.said flatly ≡ flat_of (take (6 * record_count words (nodes words)) output') cells d wp
+    pub demand_3 : {output' cells : List ℤ} {d : PredictionData} {wp : ℤ} {r : Result ℕ Refusal} {direct flatly : Result PredictionResult Refusal}
+        → said r ≡ flattening words (length ring) (length output)
+        → output' ≡ output_after (flattening words (length ring) (length output)) words output
+        → Covers words (nodes words) cells
+        → said direct ≡ walk_of words cells d wp
+        → said flatly ≡ flat_of (take (6 * record_count words (nodes words)) output') cells d wp
         → BothWalks words cells d wp r direct flatly
-    demand_3 {cells} {d} {wp} {direct} {flatly} covers told told_flat =
+    demand_3 {output'} {cells} {d} {wp} {r} {direct} {flatly} answers writes covers told told_flat =
         let both = agree words (nodes words) sound.shaped sound.some cells covers d wp sound.few offsets in
         let direct_is = told ∙ ap (λ (o : Outcome ℕ). walk_by o words cells d wp) counted_nodes ∙ both.direct in
-        let flat_is = told_flat ∙ ap (λ (l : List ℤ). flat_of l cells d wp) records_lent ∙ both.flatly in
+        let flat_is = told_flat ∙ ap (λ (l : List ℤ). flat_of l cells d wp) (records_lent writes) ∙ both.flatly in
         record {
           end = both.end;
-          flattens = (flattens_determined flattens (record { answers = sym gives_records; leaves = refl; writes = refl })).0;
+          flattens = one_result r _ answers (sym gives_records);
           walks = walk_determined direct _ direct_is refl;
           walks_flat = walk_determined flatly _ flat_is refl;
         }

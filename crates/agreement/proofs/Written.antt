@@ -14,10 +14,10 @@ use Rattle.integer.proofs.Wrap.{bits_parts, bits_of_wrap}
 use Rattle.integer.specs.Word.{bits_of, wrap}
 use Rattle.nodes.specs.declared.Leaf.{Leaf}
 use Rattle.predict.specs.Predictors.{numbered}
-use Rattle.predict.specs.declared.predictors.Numbered.TheVariants.{Is}
 use Rattle.predict.specs.declared.predictors.Predictor.{Predictor}
 use Rattle.predict.specs.declared.predictors.Predictor.TheVariants.{Zero, West, North, AverageWestAndNorth, Select, Gradient, Weighted, NorthEast, NorthWest, WestWest, AverageWestAndNorthWest, AverageNorthAndNorthWest, AverageNorthAndNorthEast, AverageAll}
 use Rattle.refusal.specs.Paper.{gives}
+use Rattle.std.proofs.Common.{Ok}
 use Rattle.flat.specs.Records.{record_of, signed_half}
 use Rattle.flat.specs.declared.records.Record.TheVariants as flat
 use Rattle.flatten.specs.Records.{predictor_number, leaf_words}
@@ -48,7 +48,7 @@ half_back (negsuc a) h =
     rw (is, high) (same (pos (65535 - a) -ℤ pos 65536) (negsuc a) (omega (arith, of_minus (pos (65535 - a)) (pos 65536))))
 
 -- a predictor is read back from its number's word
-number_back : (p : Predictor) → numbered (bits_of (pos (predictor_number p))) ≡ Is p
+number_back : (p : Predictor) → numbered (bits_of (pos (predictor_number p))) ≡ Ok p
 number_back Zero = refl
 number_back West = refl
 number_back North = refl

@@ -19,11 +19,10 @@ use Rattle.validation.proofs.Sound.{both_given}
 use Rattle.validation.proofs.ToDo.{nodes, sound_list}
 use Rattle.validation.specs.Reach.{LeafAt}
 use Rattle.validation.specs.Shape.{shape}
-use Rattle.flatten.specs.Flatten.{ring_needed, output_needed, output_after, Flattens}
+use Rattle.flatten.specs.Flatten.{ring_needed, output_needed, flattening, output_after}
 use Rattle.flatten.specs.Offsets.{is_wide, offset_of, first_wide}
 use Rattle.flatten.specs.Queue.{node_of_record, first_of, record_count}
 use Rattle.flatten.specs.Records.{record_size, record_for, record_words}
-use Rattle.flatten.specs.declared.Flattened.TheVariants.{Records}
 use Rattle.flatten.proofs.Flat.{record_at_lem}
 
 roomy : (t u : Bool) (a b count n : ℕ) → if t (refuses 8 (pos a ∷ [])) (if u (refuses 8 (pos b ∷ [])) (gives n)) ≡ gives count → count ≡ n
@@ -49,11 +48,11 @@ narrow_at words (suc n) k {l} e h leaf =
         let is : n ≡ k = omega arith in
         not_wide (is_wide l.offset) (pos k ∷ []) (rw (is, leaf) at last)
 
-module _ {words ring output : List ℤ} {count : ℕ} {ring' output' : List ℤ} (told : Flattens words ring output (Records count) ring' output') (some : 0 < length words) where
+module _ (words ring output : List ℤ) {count : ℕ} (answers : gives count ≡ flattening words (length ring) (length output)) (some : 0 < length words) where
   parts : (shape words ≡ gives tt) × (first_wide words (nodes words) ≡ gives tt) × (count ≡ record_count words (nodes words))
   parts =
       let there = ne_eqb (length words) 0 (λ e. omega (arith, e)) in
-      let shaped = both_given (shape words) _ (sym told.answers) in
+      let shaped = both_given (shape words) _ (sym answers) in
       let narrow = both_given (first_wide words (nodes words)) _ (rw there at shaped.1) in (
         shaped.0,
         narrow.0,
@@ -70,9 +69,10 @@ module _ {words ring output : List ℤ} {count : ℕ} {ring' output' : List ℤ}
   answered_count = parts.2
 
   -- record k is read from its own words
-  pub answered_record : (k : ℕ) → k < count → take record_size (drop (record_size * k) output') ≡ record_for words (node_of_record words k) (first_of words k)
-  answered_record k h =
+  pub answered_record : {output' : List ℤ} → output' ≡ output_after (flattening words (length ring) (length output)) words output
+      → (k : ℕ) → k < count → take record_size (drop (record_size * k) output') ≡ record_for words (node_of_record words k) (first_of words k)
+  answered_record {output'} writes k h =
       let sound = sound_list words (parts.0, some) in
-      let written : output' ≡ record_words words count ++ drop (record_size * count) output = told.writes ∙ ap (λ (o : Outcome ℕ). output_after o words output) (sym told.answers) in
+      let written : output' ≡ record_words words count ++ drop (record_size * count) output = writes ∙ ap (λ (o : Outcome ℕ). output_after o words output) (sym answers) in
       rw written
       (record_at_lem words (nodes words) sound.shaped sound.some count k (omega (arith, answered_count)) h (drop (record_size * count) output))

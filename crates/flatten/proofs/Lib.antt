@@ -6,5 +6,4 @@ pub mod Flat
 pub mod RingEnds
 pub mod Rounds
 pub mod Wide
-pub mod Words
 pub mod Writing

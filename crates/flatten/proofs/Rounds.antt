@@ -15,9 +15,7 @@ use Rattle.integer.proofs.Fill.{tabulate_length, tabulate_agree, tabulate_join}
 use Rattle.integer.specs.Fill.{tabulate}
 use Rattle.integer.specs.Order.{if}
 use Rattle.integer.specs.Word.{bits_of}
-use Rattle.flatten.specs.Ring.{goes_round, queued_at, held, Ready, Puts, Takes}
-use Rattle.flatten.specs.declared.ring.Ring.{Ring}
-use Rattle.flatten.specs.declared.ring.Taken.{Taken}
+use Rattle.flatten.specs.Ring.{Ends, goes_round, queued_at, held, Ready, Puts, Takes}
 
 -- ---- going round: as it is, or one round back
 
@@ -66,11 +64,11 @@ round_again m f h = (
 
 -- ---- what is held
 
-pub held_length : (ring : Ring) (words : List ℤ) → length (held ring words) ≡ ring.queued
+pub held_length : (ring : Ends) (words : List ℤ) → length (held ring words) ≡ ring.queued
 unfolding held
 held_length ring words = tabulate_length (queued_at ring words) ring.queued
 
-module _ (ring : Ring) (words : List ℤ) (place : ℕ) (ready : Ready ring words) (room : ring.queued < length words) (small : place < 2147483648) where
+module _ (ring : Ends) (words : List ℤ) (place : ℕ) (ready : Ready ring words) (room : ring.queued < length words) (small : place < 2147483648) where
   abbrev end : ℕ
   end = goes_round (length words) (ring.first + ring.queued)
 
@@ -80,7 +78,7 @@ module _ (ring : Ring) (words : List ℤ) (place : ℕ) (ready : Ready ring word
   abbrev put_words : List ℤ
   put_words = set words end (pos place)
 
-  abbrev put_ring : Ring
+  abbrev put_ring : Ends
   put_ring = record { first = ring.first; queued = ring.queued + 1 }
 
   same_length : length put_words ≡ length words
@@ -111,10 +109,10 @@ module _ (ring : Ring) (words : List ℤ) (place : ℕ) (ready : Ready ring word
   }
 
 -- nothing put, and more put after some
-pub puts_none : (ring : Ring) (words : List ℤ) → Ready ring words → Puts ring words [] ring words
+pub puts_none : (ring : Ends) (words : List ℤ) → Ready ring words → Puts ring words [] ring words
 puts_none ring words ready = record { ready = ready; as_long = refl; more = omega arith; appends = sym (append-nil (held ring words)) }
 
-pub puts_on : {a b c : Ring} {u v w : List ℤ} {xs ys : List ℕ} → Puts a u xs b v → Puts b v ys c w → Puts a u (xs ++ ys) c w
+pub puts_on : {a b c : Ends} {u v w : List ℤ} {xs ys : List ℕ} → Puts a u xs b v → Puts b v ys c w → Puts a u (xs ++ ys) c w
 puts_on {a} {u = u} {xs = xs} {ys = ys} p q = record {
   ready = q.ready;
   as_long = q.as_long ∙ p.as_long;
@@ -122,12 +120,9 @@ puts_on {a} {u = u} {xs = xs} {ys = ys} p q = record {
   appends = q.appends ∙ ap (λ (l : List ℕ). l ++ ys) p.appends ∙ append_assoc (held a u) xs ys;
 }
 
-module _ (ring : Ring) (words : List ℤ) (ready : Ready ring words) (some : 0 < ring.queued) where
-  abbrev left : Ring
+module _ (ring : Ends) (words : List ℤ) (ready : Ready ring words) (some : 0 < ring.queued) where
+  abbrev left : Ends
   left = record { first = goes_round (length words) (ring.first + 1); queued = ring.queued - 1 }
-
-  abbrev taken : Taken
-  taken = record { ring = left; place = bits_of (get_or words ring.first (pos 0)) }
 
   rest : tabulate (λ i. queued_at ring words (1 + i)) (ring.queued - 1) ≡ held left words
   unfolding held
@@ -135,7 +130,7 @@ module _ (ring : Ring) (words : List ℤ) (ready : Ready ring words) (some : 0 <
       tabulate_agree (λ i. queued_at ring words (1 + i)) (queued_at left words) (ring.queued - 1)
       (λ i h. ap (λ (k : ℕ). bits_of (get_or words k (pos 0))) (sym (round_on (length words) ring.first i ready.starts (omega (arith, ready.fits)))))
 
-  pub takes : Takes ring words taken
+  pub takes : Takes ring words (bits_of (get_or words ring.first (pos 0))) left
   unfolding held tabulate
   takes = record {
     ready = record { starts = round_below (length words) (ring.first + 1) (omega (arith, ready.starts)); fits = omega (arith, ready.fits) };

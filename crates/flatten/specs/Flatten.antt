@@ -1,16 +1,14 @@
 -- Module 7 of document 01: what flattening answers, and what the ring and the output hold afterwards.
-use Rattle.std.specs.Prelude.{List, [], ◌∷◌, ◌++◌, ◌≡◌, refl, ℕ, ◌+◌, ◌-◌, ◌*◌, ◌/◌, ltb, eqb, ℤ, pos, length, drop}
-use Rattle.std.proofs.Common.{ap}
+use Rattle.std.specs.Prelude.{List, [], ◌∷◌, ◌++◌, ◌≡◌, ℕ, ◌+◌, ◌-◌, ◌*◌, ◌/◌, ltb, eqb, ℤ, pos, length, drop, Result}
 use Rattle.integer.specs.Fill.{filled}
 use Rattle.integer.specs.Order.{if}
 use Rattle.nodes.specs.Nodes.{then}
-use Rattle.refusal.specs.Paper.{Outcome, gives, refuses, paper, read_back, reads_back, one_answer, one_value}
+use Rattle.refusal.specs.Paper.{Outcome, gives, refuses, said, one_result, one_value}
+use Rattle.refusal.specs.declared.Refusal.{Refusal}
 use Rattle.validation.specs.Shape.{shape}
 use Rattle.flatten.specs.Offsets.{first_wide}
 use Rattle.flatten.specs.Queue.{record_count}
 use Rattle.flatten.specs.Records.{record_size, record_words}
-use Rattle.flatten.specs.declared.Flattened.{Flattened}
-use Rattle.flatten.specs.declared.Flattened.TheVariants.{Records, Refused}
 
 -- the words that n nodes need
 abbrev pub ring_needed : ℕ → ℕ
@@ -41,26 +39,15 @@ abbrev pub output_after : Outcome ℕ → List ℤ → List ℤ → List ℤ
 output_after (gives count) words output = record_words words count ++ drop (record_size * count) output
 output_after (refuses number details) words output = output
 
--- ---- the answer in the paper's terms, and determinacy
+-- ---- determinacy
 
-abbrev pub said : Flattened → Outcome ℕ
-said (Records n) = gives n
-said (Refused refusal) = paper refusal
-
-abbrev unsaid : Outcome ℕ → Flattened
-unsaid (gives n) = Records n
-unsaid (refuses n ds) = Refused (read_back n ds)
-
-said_again : (r : Flattened) → unsaid (said r) ≡ r
-said_again (Records n) = refl
-said_again (Refused refusal) = ap Refused (reads_back refusal)
-
-pub record Flattens (words ring output : List ℤ) (r : Flattened) (ring' output' : List ℤ) : Type 0 where
-  pub answers : said r ≡ flattening words (length ring) (length output)
-  pub leaves : ring' ≡ ring_after (flattening words (length ring) (length output)) words ring
-  pub writes : output' ≡ output_after (flattening words (length ring) (length output)) words output
-
-pub flattens_determined : {words ring output : List ℤ} {r s : Flattened} {a b c d : List ℤ} → Flattens words ring output r a b → Flattens words ring output s c d
+pub flattens_determined : (words ring output : List ℤ) {r s : Result ℕ Refusal} {a b c d : List ℤ}
+    → said r ≡ flattening words (length ring) (length output)
+    → a ≡ ring_after (flattening words (length ring) (length output)) words ring
+    → b ≡ output_after (flattening words (length ring) (length output)) words output
+    → said s ≡ flattening words (length ring) (length output)
+    → c ≡ ring_after (flattening words (length ring) (length output)) words ring
+    → d ≡ output_after (flattening words (length ring) (length output)) words output
     → (r ≡ s) × (a ≡ c) × (b ≡ d)
-flattens_determined {r = r} {s = s} p q =
-    (one_answer said unsaid said_again r s p.answers q.answers, one_value p.leaves q.leaves, one_value p.writes q.writes)
+flattens_determined words ring output {r} {s} answers leaves writes answers' leaves' writes' =
+    (one_result r s answers answers', one_value leaves leaves', one_value writes writes')

@@ -1,5 +1,5 @@
 -- The six words of each record.
-use Rattle.std.specs.Prelude.{List, [], ◌∷◌, ◌++◌, ◌≡◌, refl, ℕ, zero, suc, ◌+◌, ◌*◌, ◌%◌, ℤ, pos, negsuc}
+use Rattle.std.specs.Prelude.{List, [], ◌∷◌, ◌++◌, ◌≡◌, refl, ℕ, zero, suc, ◌+◌, ◌*◌, ◌%◌, ℤ, pos, negsuc, Ok}
 use Rattle.integer.specs.Word.{bits_of, wrap}
 use Rattle.nodes.specs.Nodes.{node_at}
 use Rattle.nodes.specs.declared.Leaf.{Leaf}
@@ -22,7 +22,6 @@ use Rattle.predict.specs.declared.predictors.Predictor.TheVariants.{
   AverageNorthAndNorthEast,
   AverageAll,
 }
-use Rattle.predict.specs.declared.predictors.Numbered.TheVariants.{Is}
 use Rattle.predict.specs.Predictors.{numbered}
 use Rattle.refusal.specs.Paper.{Outcome, gives, refuses}
 use Rattle.flatten.specs.Queue.{node_of_record, first_of}
@@ -49,7 +48,7 @@ predictor_number AverageNorthAndNorthEast = 12
 predictor_number AverageAll = 13
 
 -- it is the number by which a node names its predictor
-pub numbered_again : (p : Predictor) → numbered (predictor_number p) ≡ Is p
+pub numbered_again : (p : Predictor) → numbered (predictor_number p) ≡ Ok p
 numbered_again Zero = refl
 numbered_again West = refl
 numbered_again North = refl

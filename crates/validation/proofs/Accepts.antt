@@ -6,14 +6,14 @@ use mathlib.Core.List.{List}
 use mathlib.Core.Path.{◌≡◌, refl, sym, ap, ◌∙◌}
 use native.Mathlib.Omega.{arith}
 use Prim.Native.Nat.{◌≤◌, ◌<◌}
-use Rattle.refusal.specs.Paper.{gives}
+use Rattle.refusal.specs.Paper.{gives, said}
+use Rattle.refusal.specs.declared.Refusal.{Refusal}
+use Rattle.std.proofs.Common.{Result, Ok}
 use Rattle.validation.specs.Reach.{EachLeafReached}
 use Rattle.validation.specs.Shape.{shape}
-use Rattle.validation.specs.Validation.{validation, Validates}
-use Rattle.validation.specs.Verdict.{said_verdict, verdict_determined}
+use Rattle.validation.specs.Validation.{validation}
+use Rattle.validation.specs.Verdict.{verdict_determined}
 use Rattle.validation.specs.Visit.{visit, levels, all_ranges}
-use Rattle.validation.specs.declared.Verdict.{Verdict}
-use Rattle.validation.specs.declared.Verdict.TheVariants.{Accepted}
 use Rattle.validation.proofs.Answers.{answer}
 use Rattle.validation.proofs.Demand3.{accepted_exactly}
 use Rattle.validation.proofs.ToDo.{nodes, sound_list}
@@ -28,17 +28,17 @@ visit_answers words work shaped some room =
 
 -- Demand 3, first half: for a list of sound shape that is not empty, and a work area that is large enough, validation accepts exactly when
 -- no leaf lies deeper than 2,048 and each leaf is reached by some choice of signed 32-bit values for the cells.
-pub validation_accepts_exactly : {words work : List ℤ} {r : Verdict} {work' : List ℤ} → Validates words work r work'
+pub validation_accepts_exactly : (words work : List ℤ) {r : Result Unit Refusal} → said r ≡ validation words (length work)
     → shape words ≡ gives tt → 0 < length words → 10762 ≤ length work
-    → (r ≡ Accepted → EachLeafReached words (nodes words)) × (EachLeafReached words (nodes words) → r ≡ Accepted)
-validation_accepts_exactly {words} {work} {r} told shaped some room =
+    → (r ≡ Ok tt → EachLeafReached words (nodes words)) × (EachLeafReached words (nodes words) → r ≡ Ok tt)
+validation_accepts_exactly words work {r} answers shaped some room =
     let sound = sound_list words (shaped, some) in
     let exactly = accepted_exactly words (nodes words) sound.shaped sound.some in
-    let is = told.answers ∙ visit_answers words work shaped some room in (
-      λ accepts. exactly.0 (sym is ∙ ap said_verdict accepts),
-      λ each. verdict_determined r Accepted (is ∙ exactly.1 each) refl,
+    let is = answers ∙ visit_answers words work shaped some room in (
+      λ accepts. exactly.0 (sym is ∙ ap said accepts),
+      λ each. verdict_determined r (Ok tt) (is ∙ exactly.1 each) refl,
     )
 
 -- what the work area held before does not matter, only how long it is
-pub contents_do_not_matter : {words a b : List ℤ} {r s : Verdict} {a' b' : List ℤ} → Validates words a r a' → Validates words b s b' → length a ≡ length b → r ≡ s
-contents_do_not_matter {words} {r = r} {s = s} p q same = verdict_determined r s p.answers (q.answers ∙ ap (validation words) (sym same))
+pub contents_do_not_matter : (words a b : List ℤ) {r s : Result Unit Refusal} → said r ≡ validation words (length a) → said s ≡ validation words (length b) → length a ≡ length b → r ≡ s
+contents_do_not_matter words a b {r} {s} p q same = verdict_determined r s p (q ∙ ap (validation words) (sym same))

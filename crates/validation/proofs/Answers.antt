@@ -6,22 +6,21 @@ use lib.ListN.{length, drop}
 use lib.Seq.{take_at, drop_at, drop-drop}
 use mathlib.Core.Bool.{◌&&◌, not}
 use mathlib.Core.List.{List, [], ◌∷◌, ◌++◌}
-use mathlib.Core.Path.{◌≡◌, sym, ap, ◌∙◌}
-use Prim.Native.Nat.{ℕ, ◌+◌, ◌≤◌, ◌<◌}
+use mathlib.Core.Path.{◌≡◌, refl, sym, ap, ◌∙◌}
+use Prim.Native.Nat.{ℕ, zero, suc, ◌+◌, ◌≤◌, ◌<◌}
 use Rattle.integer.proofs.Fill.{tabulate_length}
 use Rattle.integer.specs.Fill.{tabulate, filled}
 use Rattle.integer.specs.Order.{if}
 use Rattle.nodes.specs.Nodes.{then}
-use Rattle.refusal.specs.Paper.{Outcome, gives, refuses, paper}
+use Rattle.refusal.specs.Paper.{Outcome, gives, refuses, paper, said}
 use Rattle.refusal.specs.declared.Refusal.{Refusal}
+use Rattle.std.proofs.Common.{Result, Ok, Err, replicate, add-one}
+use Rattle.std.proofs.lemmas.List.{replicate_more}
 use Rattle.refusal.specs.declared.Refusal.TheVariants.{TooSmall}
 use Rattle.validation.specs.Frames.{ranges}
 use Rattle.validation.specs.Shape.{shape}
-use Rattle.validation.specs.Validation.{passes, Validates}
-use Rattle.validation.specs.Verdict.{said_verdict}
+use Rattle.validation.specs.Validation.{passes, validation, area_after}
 use Rattle.validation.specs.Visit.{visit, levels, all_ranges, widest}
-use Rattle.validation.specs.declared.Verdict.{Verdict}
-use Rattle.validation.specs.declared.Verdict.TheVariants.{Accepted, Refused}
 
 module _ (words work : List ℤ) where
   abbrev rest : Outcome Unit
@@ -34,34 +33,37 @@ module _ (words work : List ℤ) where
   abbrev left : Outcome Unit → List ℤ
   left shaped = if (passes shaped && (not (eqb (length words) 0) && not (ltb (length work) 10762))) (filled (λ i. pos 0) 10762 work) work
 
-  pub ill_shaped : (refusal : Refusal) → paper refusal ≡ shape words → Validates words work (Refused refusal) work
-  ill_shaped refusal e = record { answers = ap answer e; leaves = ap left e }
+  -- the answer, and the words that are left
+  abbrev pub Ends : Result Unit Refusal → List ℤ → Type 0
+  Ends r work' = (said r ≡ validation words (length work)) × (work' ≡ area_after words work)
+
+  pub ill_shaped : (r : Result Unit Refusal) (refusal : Refusal) → said r ≡ paper refusal → paper refusal ≡ shape words → Ends r work
+  ill_shaped r refusal is e = (is ∙ ap answer e, ap left e)
 
   module _ (shaped : shape words ≡ gives tt) where
-    pub empty : length words ≡ 0 → Validates words work Accepted work
+    pub empty : length words ≡ 0 → Ends (Ok tt) work
     empty e =
         let none = eq-eqb _ _ e in
         let nothing : gives tt ≡ rest = simp none in
         let untouched : work ≡ left (gives tt) = simp none in
-        record { answers = nothing ∙ ap answer (sym shaped); leaves = untouched ∙ ap left (sym shaped) }
+        (nothing ∙ ap answer (sym shaped), untouched ∙ ap left (sym shaped))
 
     module _ (some : length words ≡ 0 → ⊥) where
-      pub too_small : length work < 10762 → Validates words work (Refused (TooSmall 10762)) work
+      pub too_small : length work < 10762 → Ends (Err (TooSmall 10762)) work
       too_small h =
           let there = ne_eqb _ _ some in
           let small = lt-ltb _ _ h in
           let refused : paper (TooSmall 10762) ≡ rest = simp (there, small) in
           let untouched : work ≡ left (gives tt) = simp (there, small) in
-          record { answers = refused ∙ ap answer (sym shaped); leaves = untouched ∙ ap left (sym shaped) }
+          (refused ∙ ap answer (sym shaped), untouched ∙ ap left (sym shaped))
 
-      pub visited : (r : Verdict) (work' : List ℤ) → 10762 ≤ length work → said_verdict r ≡ visit words levels 0 all_ranges → work' ≡ filled (λ i. pos 0) 10762 work
-          → Validates words work r work'
+      pub visited : (r : Result Unit Refusal) (work' : List ℤ) → 10762 ≤ length work → said r ≡ visit words levels 0 all_ranges → work' ≡ filled (λ i. pos 0) 10762 work → Ends r work'
       visited r work' h answered cleared =
           let there = ne_eqb _ _ some in
           let enough = le-ltb _ _ h in
           let found : visit words levels 0 all_ranges ≡ rest = simp (there, enough) in
           let zeroed : filled (λ i. pos 0) 10762 work ≡ left (gives tt) = simp (there, enough) in
-          record { answers = answered ∙ found ∙ ap answer (sym shaped); leaves = cleared ∙ zeroed ∙ ap left (sym shaped) }
+          (answered ∙ found ∙ ap answer (sym shaped), cleared ∙ zeroed ∙ ap left (sym shaped))
 
 -- ---- the work area, opened and cleared
 
@@ -76,3 +78,9 @@ beyond_filled f k m work =
 
 pub filled_alike : (f : ℕ → ℤ) (n : ℕ) (a b : List ℤ) → drop n a ≡ drop n b → filled f n a ≡ filled f n b
 filled_alike f n a b e = ap (λ (l : List ℤ). tabulate f n ++ l) e
+
+-- zeros, as a table
+pub zeroes : (n : ℕ) → tabulate (λ i. pos 0) n ≡ replicate n (pos 0)
+unfolding tabulate
+zeroes zero = refl
+zeroes (suc n) = rw (zeroes n) (rw (add-one n) at (replicate_more n (pos 0)))

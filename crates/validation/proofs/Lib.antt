@@ -8,6 +8,7 @@ pub mod Ranges
 pub mod Sound
 pub mod Steps
 pub mod ToDo
+mod Turns
 pub mod Tree
 pub mod Walk
 pub mod Words

@@ -17,9 +17,9 @@ use Rattle.nodes.specs.Nodes.{then, node_at}
 use Rattle.nodes.specs.declared.Node.TheVariants as node
 use Rattle.nodes.specs.declared.Split.{Split}
 use Rattle.refusal.specs.Paper.{Outcome, gives, refuses}
+use Rattle.std.proofs.Common.{Some, None}
 use Rattle.validation.specs.Visit.{left_of, right_of, empty_side, visit, entered, levels, all_ranges}
 use Rattle.validation.specs.Frames.{Frame, frame_in, base, ranges, at_leaf, down, descended, restored, narrowed, back_of, back_work, Sits, Framed, RightFits}
-use Rattle.validation.specs.declared.visit.Back.TheVariants.{Up, Right}
 use Rattle.validation.proofs.Sound.{inside, children}
 use Rattle.validation.proofs.Pending.{then_then, then_done, pending, pending_agree, cost_agree, pending_right, pending_up, cost_right, cost_up, frame_above, visited, last_word, sides_held, ranges_restored, ranges_narrowed, restored_frame, narrowed_frame, restored_beyond, narrowed_beyond, restored_after, found, restored_left, narrowed_left, descended_frame, descended_other, descended_ranges, descended_beyond, descended_length}
 use Rattle.validation.proofs.ToDo.{nodes, Sound, pending_in, to_do, cost_above, cost, Above, visit_here, entered_here, entered_one, Entry, met_leaf, went_down, met_refusal}
@@ -279,11 +279,11 @@ module _ (words : List ℤ) where
 
 -- ---- what leaving a split shows
 
-back_by : (t : Bool) {place right : ℕ} → Right place ≡ if t Up (Right right) → (t ≡ false) × (place ≡ right)
+back_by : (t : Bool) {place right : ℕ} → Some place ≡ if t None (Some right) → (t ≡ false) × (place ≡ right)
 back_by true e = let z : ◌≡◌ {A = ℕ} 0 1 = cc in absurd (omega arith)
 back_by false e = (refl, cc)
 
-up_by : (t : Bool) (right : ℕ) → Up ≡ if t Up (Right right) → t ≡ true
+up_by : (t : Bool) (right : ℕ) → None ≡ if t None (Some right) → t ≡ true
 up_by true right e = refl
 up_by false right e = let z : ◌≡◌ {A = ℕ} 0 1 = cc in absurd (omega arith)
 
@@ -299,14 +299,14 @@ module _ (words : List ℤ) (sound : Sound words) (depth above : ℕ) (is : dept
   abbrev at_split : Above words (suc above) work
   at_split = subst (λ (k : ℕ). Above words k work) is state
 
-  pub left_upward : {work' : List ℤ} → Up ≡ back_of (frame_in work above) → work' ≡ back_work (frame_in work above) above work → Rising words work depth work' above
+  pub left_upward : {work' : List ℤ} → None ≡ back_of (frame_in work above) → work' ≡ back_work (frame_in work above) above work → Rising words work depth work' above
   left_upward e is_work =
       let done = up_by (eqb (frame_in work above).right 0) (frame_in work above).right e in
       let it = goes_up words sound above work at_split done in
       let same : _ ≡ restored (frame_in work above) work = is_work ∙ rw done in
       rw (same, is) (record { above = it.higher; kept = it.kept; same_pending = it.same_pending; no_more = it.no_more })
 
-  pub left_rightward : {place' : ℕ} {work' : List ℤ} → Right place' ≡ back_of (frame_in work above) → work' ≡ back_work (frame_in work above) above work → Rightward words work depth place' work'
+  pub left_rightward : {place' : ℕ} {work' : List ℤ} → Some place' ≡ back_of (frame_in work above) → work' ≡ back_work (frame_in work above) above work → Rightward words work depth place' work'
   left_rightward e is_work =
       let by = back_by (eqb (frame_in work above).right 0) e in
       let it = goes_right words sound above work at_split by.0 in

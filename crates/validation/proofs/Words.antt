@@ -1,36 +1,26 @@
--- The words of a frame and of a range: what is stored is what was meant.
-use lib.Dec.{T, leb}
-use lib.IntN.{ℤ, pos, negsuc, ◌+ℤ◌}
-use lib.Signed.{lt_z, mag}
-use mathlib.Core.Bool.{Bool, true, false, ◌||◌}
-use mathlib.Core.List.{List}
-use mathlib.Core.Path.{◌≡◌, refl, sym, subst}
+-- Words copied to their place are the words set there one after the other.
+use borrow.Rule.Slice.PartMut.{put_mid}
+use lib.IntN.{ℤ}
+use lib.ListN.{length, set, take, drop}
+use lib.Seq.{sets, sets-eq, drop-drop}
+use mathlib.Core.List.{List, [], ◌∷◌, ◌++◌, append_assoc}
+use mathlib.Core.Path.{◌≡◌, sym, ap, ◌∙◌}
 use native.Mathlib.Omega.{arith}
-use Prim.Native.Nat.{ℕ, zero, suc, ◌<◌, ◌^◌}
-use borrow.Author.Tests.{ltb-true}
-use Rattle.integer.proofs.Parts.{of_plus, same}
-use Rattle.nodes.specs.declared.Split.{Split}
-use Rattle.refusal.specs.Paper.{paper}
-use Rattle.refusal.specs.declared.Refusal.TheVariants.{EmptySide}
-use Rattle.validation.specs.Visit.{low, high, empty_side}
-use Rattle.validation.specs.Frames.{split_step}
+use Prim.Native.Nat.{ℕ, suc, ◌+◌, ◌-◌, ◌≤◌}
 
-pub or_left_false : (a b : Bool) → (a || b) ≡ false → a ≡ false
-or_left_false true b e = e
-or_left_false false b e = refl
+pub copied : (l : List ℤ) (at n : ℕ) (words : List ℤ) → length words ≡ n → at + n ≤ length l → put_mid at (at + n - at) l words ≡ sets l at words
+copied l at n words long h =
+    let fits : at + length words ≤ length l = omega (arith, long) in
+    let same : at + (at + n - at) ≡ at + length words = omega (arith, long) in
+    let beyond : drop (at + n - at) (drop at l) ≡ drop (at + length words) l = drop-drop (at + n - at) at l ∙ ap (λ (k : ℕ). drop k l) same in
+    ap (λ (rest : List ℤ). take at l ++ (words ++ rest)) beyond
+    ∙ sym (append_assoc (take at l) words (drop (at + length words) l))
+    ∙ sym (sets-eq words l at fits)
 
--- a number below another of 32 bits has a successor of 32 bits
-pub next_fits : (v h : ℤ) → mag v < 2 ^ 31 → mag h < 2 ^ 31 → lt_z v h ≡ true → mag (v +ℤ pos 1) < 2 ^ 31
-next_fits (pos a) (pos b) f g e = let l : a < b = ltb-true a b e in omega arith
-next_fits (pos a) (negsuc b) f g e = absurd (subst (λ (t : Bool). T t) (sym e) tt)
-next_fits (negsuc zero) h f g e = omega arith
-next_fits (negsuc (suc a)) h f g e =
-    let back : negsuc (suc a) +ℤ pos 1 ≡ negsuc a = same _ _ (omega (arith, of_plus (negsuc (suc a)) (pos 1))) in
-    rw back (omega arith)
-
--- the refusal of a split that is not too deep, its range as read
-pub refused_side : (s : Split) (place depth : ℕ) (work : List ℤ) {value l h : ℤ} → value ≡ s.value → l ≡ low work s.property → h ≡ high work s.property
-    → leb depth 2048 ≡ true
-    → empty_side s work ≡ true
-    → paper (EmptySide (record { place = place; property = s.property; value = value; low = l; high = h })) ≡ split_step s place depth work
-refused_side s place depth work is_value is_low is_high shallow empty = rw (is_value, is_low, is_high, shallow, empty)
+pub five_in_a_row : (l : List ℤ) (at : ℕ) (a b c d e : ℤ) → sets l at (a ∷ b ∷ c ∷ d ∷ e ∷ []) ≡ set (set (set (set (set l at a) (at + 1) b) (at + 2) c) (at + 3) d) (at + 4) e
+five_in_a_row l at a b c d e =
+    let one : at + 1 ≡ suc at = omega arith in
+    let two : at + 2 ≡ suc (suc at) = omega arith in
+    let three : at + 3 ≡ suc (suc (suc at)) = omega arith in
+    let four : at + 4 ≡ suc (suc (suc (suc at))) = omega arith in
+    rw (one, two, three, four)

@@ -1,18 +1,14 @@
 -- How the visit uses its work area of 10,762 words: 512 for the ranges, then 2,050 frames of five, one for each split on the way from the
 -- root: its property, its value, the range that it found, and its right child while that is still to be visited, else 0.
-use Rattle.std.specs.Prelude.{List, [], ◌∷◌, ◌≡◌, ℕ, ◌+◌, ◌*◌, ◌<◌, leb, eqb, ℤ, pos, get_or, set, take}
+use Rattle.std.specs.Prelude.{List, [], ◌∷◌, ◌≡◌, ℕ, ◌+◌, ◌*◌, ◌<◌, leb, eqb, ℤ, pos, get_or, set, take, Option, Some, None}
 use Rattle.integer.specs.Order.{if}
 use Rattle.integer.specs.Word.{bits_of}
 use Rattle.nodes.specs.Nodes.{node_at}
 use Rattle.nodes.specs.declared.Node.{Node}
 use Rattle.nodes.specs.declared.Node.TheVariants as node
 use Rattle.nodes.specs.declared.Split.{Split}
-use Rattle.refusal.specs.Paper.{Outcome, gives, refuses, paper}
+use Rattle.refusal.specs.Paper.{Outcome, gives, refuses}
 use Rattle.validation.specs.Visit.{low, high, empty_side, left_of}
-use Rattle.validation.specs.declared.visit.Entered.{Entered}
-use Rattle.validation.specs.declared.visit.Entered.TheVariants.{AtLeaf, Down, Refused}
-use Rattle.validation.specs.declared.visit.Back.{Back}
-use Rattle.validation.specs.declared.visit.Back.TheVariants.{Up, Right}
 
 abbrev pub area_needed : ℕ
 area_needed = 10762
@@ -62,14 +58,15 @@ pushed s depth work =
 abbrev pub descended : Split → ℕ → List ℤ → List ℤ
 descended s depth work = left_of s (pushed s depth work)
 
-pub data Step : Type 0 where
-  at_leaf : Step
-  down : ℕ → Step
+-- on to a split's left child, none of a leaf
+abbrev pub Step : Type 0
+Step = Option ℕ
 
-abbrev pub said_entered : Entered → Outcome Step
-said_entered AtLeaf = gives at_leaf
-said_entered (Down place) = gives (down place)
-said_entered (Refused refusal) = paper refusal
+abbrev pub at_leaf : Step
+at_leaf = None
+
+abbrev pub down : ℕ → Step
+down place = Some place
 
 -- depth before range
 abbrev pub leaf_step : ℕ → ℕ → Outcome Step
@@ -108,8 +105,8 @@ RightFits words place = (s : Split) → node_at words place ≡ gives (node.Spli
 
 -- ---- back at a split: on to its right side, or up with its range restored
 
-abbrev pub back_of : Frame → Back
-back_of f = if (eqb f.right 0) Up (Right f.right)
+abbrev pub back_of : Frame → Option ℕ
+back_of f = if (eqb f.right 0) None (Some f.right)
 
 abbrev pub restored : Frame → List ℤ → List ℤ
 restored f work = set (set work (2 * f.property) f.low) (2 * f.property + 1) f.high

@@ -1,14 +1,14 @@
 -- What validation answers, and what the work area holds afterwards.
-use Rattle.std.specs.Prelude.{Bool, true, false, ◌&&◌, not, List, [], ◌∷◌, ◌≡◌, ℕ, ltb, eqb, ℤ, pos, length}
+use Rattle.std.specs.Prelude.{Bool, true, false, ◌&&◌, not, List, [], ◌∷◌, ◌≡◌, ℕ, ltb, eqb, ℤ, pos, length, Result}
 use Rattle.integer.specs.Fill.{filled}
 use Rattle.integer.specs.Order.{if}
 use Rattle.nodes.specs.Nodes.{then}
-use Rattle.refusal.specs.Paper.{Outcome, gives, refuses, one_value}
+use Rattle.refusal.specs.Paper.{Outcome, gives, refuses, said, one_value}
+use Rattle.refusal.specs.declared.Refusal.{Refusal}
 use Rattle.validation.specs.Frames.{area_needed}
 use Rattle.validation.specs.Shape.{shape}
-use Rattle.validation.specs.Verdict.{said_verdict, verdict_determined}
+use Rattle.validation.specs.Verdict.{verdict_determined}
 use Rattle.validation.specs.Visit.{visit, levels, all_ranges}
-use Rattle.validation.specs.declared.Verdict.{Verdict}
 
 -- 1 to 4, then 8, then what the visit finds; the empty list needs nothing
 abbrev pub validation : List ℤ → ℕ → Outcome Unit
@@ -28,9 +28,8 @@ visits words area = passes (shape words) && (not (eqb (length words) 0) && not (
 abbrev pub area_after : List ℤ → List ℤ → List ℤ
 area_after words work = if (visits words (length work)) (filled (λ i. pos 0) area_needed work) work
 
-pub record Validates (words work : List ℤ) (r : Verdict) (work' : List ℤ) : Type 0 where
-  pub answers : said_verdict r ≡ validation words (length work)
-  pub leaves : work' ≡ area_after words work
-
-pub validates_determined : {words work : List ℤ} {r s : Verdict} {a b : List ℤ} → Validates words work r a → Validates words work s b → (r ≡ s) × (a ≡ b)
-validates_determined {r = r} {s = s} p q = (verdict_determined r s p.answers q.answers, one_value p.leaves q.leaves)
+pub validates_determined : (words work : List ℤ) {r s : Result Unit Refusal} {a b : List ℤ}
+    → said r ≡ validation words (length work) → a ≡ area_after words work
+    → said s ≡ validation words (length work) → b ≡ area_after words work
+    → (r ≡ s) × (a ≡ b)
+validates_determined words work {r} {s} answers leaves answers' leaves' = (verdict_determined r s answers answers', one_value leaves leaves')

@@ -1,100 +1,49 @@
--- `build_flat_tree` meets its promise: each way out is one of `Answers`.
+-- `build_flat_tree` meets its promise: the ring is clear where records were written.
+use borrow.Author.Tests.{eq-eqb, ne_eqb}
 use lib.IntN.{ℤ, pos}
-use lib.ListN.{length, drop}
-use lib.Seq.{length-take-le}
+use lib.ListN.{length, drop, take, replicate, length-append}
+use lib.Seq.{length-take-le, drop_at}
 use mathlib.Core.List.{List, ◌++◌}
-use mathlib.Core.Path.{◌≡◌, sym, ap, ◌∙◌}
+use mathlib.Core.Path.{◌≡◌, sym, ap, ap₂, ◌∙◌}
 use native.Mathlib.Omega.{arith}
-use Prim.Native.Nat.{◌+◌, ◌/◌}
+use Prim.Native.Nat.{ℕ, ◌+◌, ◌/◌}
+use Rattle.std.proofs.Common.{Ok}
+use Rattle.std.proofs.lemmas.Grind.{common_steps}
 use Rattle.integer.specs.Fill.{tabulate}
-use Rattle.refusal.specs.Paper.{gives}
-use Rattle.validation.proofs.ToDo.{Sound, sound_list}
+use Rattle.refusal.specs.Paper.{Outcome, gives, said}
+use Rattle.validation.proofs.Answers.{zeroes}
 use Rattle.validation.specs.Shape.{shape}
-use Rattle.validation.specs.Verdict.{said_verdict}
+use Rattle.flatten.specs.Flatten.{ring_after}
 use Rattle.flatten.specs.Offsets.{first_wide}
-use Rattle.flatten.proofs.Answers.{ill_shaped, empty, wide, ring_small, output_small, flattened}
+use Rattle.flatten.specs.Queue.{record_count}
+use Rattle.flatten.specs.Records.{record_words}
+use Rattle.flatten.proofs.Answers.{flattened}
 use Rattle.flatten.proofs.build_flat_tree.Goals as goal
 
-pub returns-then-words-eq0 : goal.returns-then-words-eq0
-returns-then-words-eq0 c =
-    -- the shape is sound
-    let shaped : shape c.args.words.now ≡ gives tt = sym c.check_shape-shaped.ensures ∙ ap said_verdict c.in-Accepted.is in
-    empty _ _ _ shaped c.if-words-eq0.true
+pub returns-then-is_empty-clause-writes : goal.returns-then-is_empty-clause-writes
+unfolding record_words
+returns-then-is_empty-clause-writes c =
+    let is : c.check_shape.result ≡ Ok tt = grind arith in
+    let shaped : shape c.args.words.now ≡ gives tt = sym c.check_shape.ensures ∙ ap said is in
+    let none : length c.args.words.now ≡ 0 = grind (arith, common_steps) in
+    simp (shaped, eq-eqb _ _ none)
 
-pub check_offsets-narrow-requires : goal.check_offsets-narrow-requires
-check_offsets-narrow-requires c =
-    -- the shape is sound
-    let shaped : shape c.args.words.now ≡ gives tt = sym c.check_shape-shaped.ensures ∙ ap said_verdict c.in-Accepted.is in
-    -- and there are nodes
-    let sound : Sound c.args.words.now = sound_list c.args.words.now (shaped, omega (arith, c.if-words-eq0.false)) in
-    (omega (arith, sound.few), sound.whole)
-
-pub overflow_cast-result : goal.overflow_cast-result
-overflow_cast-result c =
-    -- the shape is sound
-    let shaped : shape c.args.words.now ≡ gives tt = sym c.check_shape-shaped.ensures ∙ ap said_verdict c.in-Accepted.is in
-    -- and there are nodes
-    let sound : Sound c.args.words.now = sound_list c.args.words.now (shaped, omega (arith, c.if-words-eq0.false)) in
-    omega (arith, sound.few)
-
-pub returns-then-ring-n : goal.returns-then-ring-n
-returns-then-ring-n c =
-    -- the shape is sound
-    let shaped : shape c.args.words.now ≡ gives tt = sym c.check_shape-shaped.ensures ∙ ap said_verdict c.in-Accepted.is in
-    -- and every offset is narrow
-    let narrow : first_wide c.args.words.now (length c.args.words.now / 5) ≡ gives tt = sym c.check_offsets-narrow.ensures ∙ ap said_verdict c.in-Accepted-narrow.is in
-    ring_small _ _ _ shaped c.if-words-eq0.false narrow c.if-ring-n.true
-
-pub overflow_sub-most : goal.overflow_sub-most
-overflow_sub-most c =
-    -- the shape is sound
-    let shaped : shape c.args.words.now ≡ gives tt = sym c.check_shape-shaped.ensures ∙ ap said_verdict c.in-Accepted.is in
-    -- and there are nodes
-    let sound : Sound c.args.words.now = sound_list c.args.words.now (shaped, omega (arith, c.if-words-eq0.false)) in
-    omega (arith, sound.some)
-
-pub overflow_cast-result-then-output-most : goal.overflow_cast-result-then-output-most
-overflow_cast-result-then-output-most c =
-    -- the shape is sound
-    let shaped : shape c.args.words.now ≡ gives tt = sym c.check_shape-shaped.ensures ∙ ap said_verdict c.in-Accepted.is in
-    -- and there are nodes
-    let sound : Sound c.args.words.now = sound_list c.args.words.now (shaped, omega (arith, c.if-words-eq0.false)) in
-    omega (arith, sound.few)
-
-pub returns-then-output-most : goal.returns-then-output-most
-returns-then-output-most c =
-    -- the shape is sound
-    let shaped : shape c.args.words.now ≡ gives tt = sym c.check_shape-shaped.ensures ∙ ap said_verdict c.in-Accepted.is in
-    -- and every offset is narrow
-    let narrow : first_wide c.args.words.now (length c.args.words.now / 5) ≡ gives tt = sym c.check_offsets-narrow.ensures ∙ ap said_verdict c.in-Accepted-narrow.is in
-    output_small _ _ _ shaped c.if-words-eq0.false narrow c.if-ring-n.false c.if-output-most.true
-
-pub slice_bounds-write_and_clear-end-in-Accepted-narrow : goal.slice_bounds-write_and_clear-end-in-Accepted-narrow
-slice_bounds-write_and_clear-end-in-Accepted-narrow c = sym (length-take-le _ _ c.if-ring-n.false)
-
-pub write_and_clear-records-requires : goal.write_and_clear-records-requires
-write_and_clear-records-requires c =
-    -- the shape is sound
-    let shaped : shape c.args.words.now ≡ gives tt = sym c.check_shape-shaped.ensures ∙ ap said_verdict c.in-Accepted.is in
-    ((shaped, omega (arith, c.if-words-eq0.false)), length-take-le _ _ c.if-ring-n.false, c.if-output-most.false)
-
-pub returns-in-Refused : goal.returns-in-Refused
-returns-in-Refused c = ill_shaped _ _ _ _ (sym c.check_shape-shaped.ensures ∙ ap said_verdict c.in-Refused.is)
-
-pub returns-in-Refused-narrow : goal.returns-in-Refused-narrow
-returns-in-Refused-narrow c =
-    -- the shape is sound
-    let shaped : shape c.args.words.now ≡ gives tt = sym c.check_shape-shaped.ensures ∙ ap said_verdict c.in-Accepted.is in
-    wide _ _ _ shaped c.if-words-eq0.false _ (sym c.check_offsets-narrow.ensures ∙ ap said_verdict c.in-Refused-narrow.is)
-
-pub returns-else-output-most : goal.returns-else-output-most
-returns-else-output-most c =
-    -- the shape is sound
-    let shaped : shape c.args.words.now ≡ gives tt = sym c.check_shape-shaped.ensures ∙ ap said_verdict c.in-Accepted.is in
-    -- and every offset is narrow
-    let narrow : first_wide c.args.words.now (length c.args.words.now / 5) ≡ gives tt = sym c.check_offsets-narrow.ensures ∙ ap said_verdict c.in-Accepted-narrow.is in
-    let long = length-take-le (length c.args.words.now / 5 + 1) c.args.ring.now c.if-ring-n.false in
-    flattened _ _ _ shaped c.if-words-eq0.false narrow c.if-ring-n.false c.if-output-most.false
-    c.write_and_clear-records.ensures.value
-    (ap (λ (r : List ℤ). r ++ drop (length c.args.words.now / 5 + 1) c.args.ring.now) (c.write_and_clear-records.ensures.lent_after ∙ ap (tabulate {A = ℤ} (λ i. pos 0)) long))
-    c.write_and_clear-records.ensures.output_after
+pub returns-clause-leaves : goal.returns-clause-leaves
+returns-clause-leaves c =
+    let words : List ℤ = c.args.words.now in
+    let ring : List ℤ = c.args.ring.now in
+    let n : ℕ = length words / 5 in
+    let lent : List ℤ = c.write_records-records.new.lent in
+    let sound : c.check_shape.result ≡ Ok tt = grind arith in
+    let fit : c.check_offsets.result ≡ Ok tt = grind arith in
+    let shaped : shape words ≡ gives tt = sym c.check_shape.ensures ∙ ap said sound in
+    let narrow : first_wide words n ≡ gives tt = sym c.check_offsets.ensures ∙ ap said fit in
+    let some : length words ≡ 0 → ⊥ = λ e. grind (arith, common_steps, e) in
+    let answer = flattened words (length ring) (length c.args.output.now) shaped some narrow c.if-ring-n.false c.if-output-most.false in
+    let long : length lent ≡ n + 1 = c.write_records-records.auto.lent ∙ length-take-le (n + 1) ring c.if-ring-n.false in
+    let part : length (take (n + 1) (lent ++ drop (n + 1) ring)) ≡ n + 1 = length-take-le (n + 1) _ (omega (arith, long, length-append lent (drop (n + 1) ring))) in
+    let zeros : c.fill.new.self ≡ replicate (length (take (n + 1) (lent ++ drop (n + 1) ring))) (pos 0) = grind (arith, common_steps) in
+    let cleared : c.fill.new.self ≡ tabulate (λ i. pos 0) (n + 1) = zeros ∙ ap (λ (k : ℕ). replicate k (pos 0)) part ∙ sym (zeroes (n + 1)) in
+    let after : ring_after (gives (record_count words n)) words ring ≡ tabulate (λ i. pos 0) (n + 1) ++ drop (n + 1) ring = simp (ne_eqb _ _ some) in
+    ap₂ (λ (a b : List ℤ). a ++ b) cleared (drop_at lent (drop (n + 1) ring) (n + 1) long)
+    ∙ sym (ap (λ (o : Outcome ℕ). ring_after o words ring) answer ∙ after)

@@ -2,88 +2,81 @@
 use lib.IntN.{ℤ}
 use lib.ListN.{length}
 use mathlib.Core.List.{List}
-use mathlib.Core.Path.{◌≡◌, refl, sym, ◌∙◌}
+use mathlib.Core.Path.{◌≡◌, refl, ap, ◌∙◌}
 use native.Mathlib.Omega.{arith}
-use Prim.Native.Nat.{◌<◌}
+use Prim.Native.Nat.{◌+◌, ◌<◌}
 use Rattle.validation.proofs.ToDo.{nodes, Sound, sound_list}
 use Rattle.flatten.specs.Queue.{record_count}
-use Rattle.flatten.proofs.Writing.{Writing, root_queued, all_written, fewer, place_here, record_room, few_queued, queue_room, one_more, records_few, output_kept}
+use Rattle.flatten.specs.Ring.{ends, Takes}
+use Rattle.flatten.proofs.Writing.{root_queued, all_written, fewer, place_here, record_room, few_queued, queue_room, one_more, records_few}
 use Rattle.flatten.proofs.write_records.Goals as goal
 
-pub put-ring-requires : goal.put-ring-requires
-put-ring-requires c =
-    let room : 0 < length c.args.lent.now = omega (arith, c.requires.1) in
-    (record { starts = room; fits = omega arith }, room, omega arith)
+pub put-requires : goal.put-requires
+put-requires c =
+    let room : length c.new-ring.result.words.now ≡ nodes c.args.words.now + 1 = ap length c.new-ring.ensures.words ∙ c.requires.1 in
+    let first = c.new-ring.ensures.first in
+    let none = c.new-ring.ensures.none in
+    (record { starts = omega (arith, first, room); fits = omega (arith, none) }, omega (arith, none, room), omega arith)
 
-pub loop-ring-init : goal.loop-ring-init
-loop-ring-init c =
-    root_queued c.args.words.now (sound_list c.args.words.now c.requires.0) c.args.output.now c.requires.2 refl c.requires.1 c.put-ring.ensures
+pub loop-place-init : goal.loop-place-init
+loop-place-init c =
+    let roomy : length c.new-ring.result.words.now ≡ nodes c.args.words.now + 1 = ap length c.new-ring.ensures.words ∙ c.requires.1 in
+    record {
+      same = refl;
+      writing = root_queued c.args.words.now (sound_list c.args.words.now c.requires.0) c.args.output.now c.requires.2 c.new-ring.ensures.none roomy c.put.ensures.puts;
+    }
 
-pub take-taken-requires : goal.take-taken-requires
-take-taken-requires c = (c.loop-ring.invariant.ready, c.loop-ring-test.true)
+pub take-requires : goal.take-requires
+take-requires c = c.loop-place.invariant.writing.ready
 
-pub write_record-ring-requires : goal.write_record-ring-requires
-write_record-ring-requires c =
+pub write_record-requires : goal.write_record-requires
+write_record-requires c =
+    let took : Takes (ends c.loop-place.ring) c.loop-place.ring.words.now c.in-Some.place (ends c.take.new.self) = rw c.in-Some.is at c.take.ensures.takes in
     let list : List ℤ = c.args.words.now in
     let given : List ℤ = c.args.output.now in
     let sound : Sound list = sound_list list c.requires.0 in
-    let at : Writing list given c.loop-ring.ring c.loop-ring.lent c.loop-ring.output c.loop-ring.k = c.loop-ring.invariant in
-    let some : 0 < c.loop-ring.ring.queued = c.loop-ring-test.true in
-    let took = c.take-taken.ensures in
+    let at = c.loop-place.invariant.writing in
     record {
       sound_list = (
         c.requires.0,
-        place_here list sound given c.requires.2 at some took,
-        record_room list sound given c.requires.2 at some took,
-        few_queued list sound given c.requires.2 at some took,
+        place_here list sound given c.requires.2 at took,
+        record_room list sound given c.requires.2 at took,
+        few_queued list sound given c.requires.2 at took,
       );
-      ready = (took.ready, queue_room list sound given c.requires.2 at some took);
+      ready = rw c.take.ensures.words (took.ready, queue_room list sound given c.requires.2 at took);
     }
 
 pub overflow_add-k : goal.overflow_add-k
 overflow_add-k c =
+    let took : Takes (ends c.loop-place.ring) c.loop-place.ring.words.now c.in-Some.place (ends c.take.new.self) = rw c.in-Some.is at c.take.ensures.takes in
     let list : List ℤ = c.args.words.now in
     let sound : Sound list = sound_list list c.requires.0 in
-    let given : List ℤ = c.args.output.now in
-    let at : Writing list given c.loop-ring.ring c.loop-ring.lent c.loop-ring.output c.loop-ring.k = c.loop-ring.invariant in
-    let some : 0 < c.loop-ring.ring.queued = c.loop-ring-test.true in
-    let fewer_here : c.loop-ring.k < record_count list (nodes list) = fewer list sound given c.requires.2 at some in
+    let fewer_here : c.loop-place.k < record_count list (nodes list) = fewer list sound c.args.output.now c.requires.2 c.loop-place.invariant.writing took in
     omega (arith, fewer_here, records_few list sound)
 
-pub loop-ring-smaller : goal.loop-ring-smaller
-loop-ring-smaller c =
+pub loop-place-smaller : goal.loop-place-smaller
+loop-place-smaller c =
+    let took : Takes (ends c.loop-place.ring) c.loop-place.ring.words.now c.in-Some.place (ends c.take.new.self) = rw c.in-Some.is at c.take.ensures.takes in
     let list : List ℤ = c.args.words.now in
-    let given : List ℤ = c.args.output.now in
     let sound : Sound list = sound_list list c.requires.0 in
-    let at : Writing list given c.loop-ring.ring c.loop-ring.lent c.loop-ring.output c.loop-ring.k = c.loop-ring.invariant in
-    let some : 0 < c.loop-ring.ring.queued = c.loop-ring-test.true in
-    let fewer_here : c.loop-ring.k < record_count list (nodes list) = fewer list sound given c.requires.2 at some in
+    let fewer_here : c.loop-place.k < record_count list (nodes list) = fewer list sound c.args.output.now c.requires.2 c.loop-place.invariant.writing took in
     omega (arith, fewer_here)
 
-pub loop-ring-preserved : goal.loop-ring-preserved
-loop-ring-preserved c =
+pub loop-place-preserved : goal.loop-place-preserved
+loop-place-preserved c =
+    let took : Takes (ends c.loop-place.ring) c.loop-place.ring.words.now c.in-Some.place (ends c.take.new.self) = rw c.in-Some.is at c.take.ensures.takes in
     let list : List ℤ = c.args.words.now in
-    let given : List ℤ = c.args.output.now in
     let sound : Sound list = sound_list list c.requires.0 in
-    let at : Writing list given c.loop-ring.ring c.loop-ring.lent c.loop-ring.output c.loop-ring.k = c.loop-ring.invariant in
-    let some : 0 < c.loop-ring.ring.queued = c.loop-ring-test.true in
-    one_more list sound given c.requires.2 at some c.take-taken.ensures c.write_record-ring.ensures.puts c.write_record-ring.ensures.output_after
-
-pub shape_of-lent : goal.shape_of-lent
-shape_of-lent c =
-    c.loop-ring.invariant.roomy ∙ sym c.requires.1
-
-pub shape_of-output : goal.shape_of-output
-shape_of-output c =
-    let list : List ℤ = c.args.words.now in
-    let given : List ℤ = c.args.output.now in
-    let sound : Sound list = sound_list list c.requires.0 in
-    output_kept list sound given c.requires.2 c.loop-ring.invariant
+    let at = c.loop-place.invariant.writing in
+    record {
+      same = c.write_record.ensures.same ∙ c.take.ensures.same ∙ c.loop-place.invariant.same;
+      writing = one_more list sound c.args.output.now c.requires.2 at took (rw c.take.ensures.words at c.write_record.ensures.puts) c.write_record.ensures.output_after;
+    }
 
 pub returns : goal.returns
 returns c =
     let list : List ℤ = c.args.words.now in
-    let given : List ℤ = c.args.output.now in
     let sound : Sound list = sound_list list c.requires.0 in
-    let none : c.loop-ring.ring.queued ≡ 0 = omega (arith, c.loop-ring-test.false) in
-    record { value = all_written list sound given c.requires.2 c.loop-ring.invariant none; output_after = c.loop-ring.invariant.written }
+    let at = c.loop-place.invariant.writing in
+    let none : c.loop-place.ring.queued ≡ 0 = (rw c.in_default.is at c.take.ensures.takes).0 in
+    record { value = all_written list sound c.args.output.now c.requires.2 at none; output_after = at.written }

@@ -1,12 +1,8 @@
 -- `check_offsets` meets its contract. The loop's invariant: no wide offset so far.
 use mathlib.Core.Path.{◌≡◌}
-use Prim.Native.Nat.{◌-◌, ◌≤◌}
 use Rattle.refusal.specs.Paper.{gives}
 use Rattle.flatten.specs.Offsets.{first_wide}
 use Rattle.flatten.proofs.offsets.check_offsets.Given as goal
 
 abbrev pub invariant-loop-place : goal.invariant-loop-place
-invariant-loop-place l = (l.place ≤ l.n) × (first_wide l.words l.place ≡ gives tt)
-
-abbrev pub decreases-loop-place : goal.decreases-loop-place
-decreases-loop-place l = l.n - l.place
+invariant-loop-place l = first_wide l.words l.place ≡ gives tt
