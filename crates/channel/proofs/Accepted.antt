@@ -5,6 +5,7 @@ use lib.ListN.{length}
 use mathlib.Core.List.{List, []}
 use mathlib.Core.Path.{◌≡◌, refl, sym, ap, ◌∙◌}
 use native.Mathlib.Omega.{arith}
+use Rattle.std.specs.Prelude.{Ok}
 use Prim.Native.Nat.{ℕ, zero, suc, ◌+◌, ◌/◌, ◌%◌, ◌≤◌, ◌<◌}
 use Rattle.agreement.proofs.Agree.{Agree, agree, counted_records}
 use Rattle.agreement.proofs.Demand3 as demand
@@ -16,11 +17,10 @@ use Rattle.flatten.specs.Queue.{record_count}
 use Rattle.flatten.specs.Records.{record_words}
 use Rattle.predict.specs.Neighbours.{fetched}
 use Rattle.predict.specs.declared.neighbours.PredictionData.{PredictionData}
-use Rattle.refusal.specs.Paper.{Outcome, gives}
+use Rattle.refusal.specs.Paper.{Outcome, gives, said}
 use Rattle.session.specs.Session.{Opening, fresh, opens}
 use Rattle.validation.proofs.ToDo.{nodes, Sound as Tree}
-use Rattle.validation.specs.Validation.{Validates}
-use Rattle.validation.specs.declared.Verdict.TheVariants.{Accepted}
+use Rattle.validation.specs.Validation.{validation}
 use Rattle.walk.specs.Walk.{answer_of, walk_of, walk_by}
 use Rattle.walk.specs.declared.PredictionResult.{PredictionResult}
 use Rattle.channel.specs.Calls.{calls, Arguments, Sound}
@@ -68,14 +68,14 @@ module _ (t : Told) (words records plane cells : List ℤ) (memory : List ℕ) w
     pub direct : (k : ℕ) → k ≤ length plane → scan t plane cells memory k ≡ scan (directly t words) plane cells memory k
 
 module _
-    {words work work' : List ℤ} (accepted : Validates words work Accepted work') (some : 0 < length words) (offsets : OffsetsFit words (nodes words))
+    (words work : List ℤ) (accepted : said {A = Unit} (Ok tt) ≡ validation words (length work)) (some : 0 < length words) (offsets : OffsetsFit words (nodes words))
     (t : Told) (records plane cells : List ℤ) (memory : List ℕ) (rows : ℕ) (arguments : Arguments t records plane cells memory rows)
     (records_are : records ≡ record_words words (record_count words (nodes words))) (covers : Covers words (nodes words) cells)
   where
     -- ---- the arguments are sound
 
     tree : Tree words
-    tree = demand.sound accepted some
+    tree = demand.sound words work accepted some
 
     pub sound : Sound t records plane cells memory rows
     sound =
@@ -110,7 +110,7 @@ module _
           ∙ walks.flatly
 
       direct : walk_of words full d wp ≡ gives (answer_of walks.end.leaf d wp walks.end.depth)
-      direct = ap (λ (o : Outcome ℕ). walk_by o words full d wp) (demand.counted_nodes accepted some) ∙ walks.direct
+      direct = ap (λ (o : Outcome ℕ). walk_by o words full d wp) (demand.counted_nodes words work accepted some) ∙ walks.direct
 
       stands_on : (pixel t s k (gives tt)).stands ≡ gives tt
       stands_on = ap (λ (o : Outcome PredictionResult). (after t s k o).stands) flatly

@@ -5,16 +5,16 @@ use mathlib.Core.List.{List, ◌++◌, map}
 use mathlib.Core.Path.{◌≡◌, refl, ap, ◌∙◌}
 use native.Mathlib.Nat.{zero-mul}
 use native.Mathlib.Omega.{arith}
+use Rattle.std.specs.Prelude.{Ok}
 use Prim.Native.Nat.{ℕ, zero, suc, ◌+◌, ◌*◌, ◌≤◌, ◌<◌}
 use Rattle.agreement.specs.Covers.{Covers, OffsetsFit}
 use Rattle.flatten.specs.Queue.{record_count}
 use Rattle.flatten.specs.Records.{record_words}
 use Rattle.integer.specs.Fill.{tabulate}
-use Rattle.refusal.specs.Paper.{Outcome, gives, refuses}
+use Rattle.refusal.specs.Paper.{Outcome, gives, refuses, said}
 use Rattle.row.specs.Row.{Row, row_of, all}
 use Rattle.validation.proofs.ToDo.{nodes}
-use Rattle.validation.specs.Validation.{Validates}
-use Rattle.validation.specs.declared.Verdict.TheVariants.{Accepted}
+use Rattle.validation.specs.Validation.{validation}
 use Rattle.walk.specs.declared.PredictionResult.{PredictionResult}
 use Rattle.channel.specs.Calls.{Before, calls, Arguments, Sound}
 use Rattle.channel.specs.Channel.{Told, scan}
@@ -111,7 +111,7 @@ module _
 -- ---- over the records of an accepted list of nodes
 
 module _
-    {words work work' : List ℤ} (accepted : Validates words work Accepted work') (some : 0 < length words) (offsets : OffsetsFit words (nodes words))
+    (words work : List ℤ) (accepted : said {A = Unit} (Ok tt) ≡ validation words (length work)) (some : 0 < length words) (offsets : OffsetsFit words (nodes words))
     (t : Told) (records plane cells : List ℤ) (memory : List ℕ) (rows : ℕ) (arguments : Arguments t records plane cells memory rows)
     (records_are : records ≡ record_words words (record_count words (nodes words))) (covers : Covers words (nodes words) cells)
     (references : ℕ → List ℤ) (packed : (y : ℕ) → y < rows → Packed t y (references y))
@@ -120,6 +120,6 @@ module _
     pub rows_unpack : RowsUnpack t references lent records plane cells memory rows
     rows_unpack =
         rows_unpacked t words records plane cells memory rows
-        (sound accepted some offsets t records plane cells memory rows arguments records_are covers)
-        (channel_unpacks accepted some offsets t records plane cells memory rows arguments records_are covers)
+        (sound words work accepted some offsets t records plane cells memory rows arguments records_are covers)
+        (channel_unpacks words work accepted some offsets t records plane cells memory rows arguments records_are covers)
         references packed lent long

@@ -29,8 +29,7 @@ use Rattle.session.specs.declared.Session.{Session}
 use Rattle.walk.specs.declared.PredictionResult.{PredictionResult}
 use Rattle.weighted.proofs.Allowed.{test_passed}
 use Rattle.weighted.specs.Memory.{word, at_n, at_nw, at_ne, errors_read, sums_read, error_at, current, previous, updated}
-use Rattle.weighted.specs.State.{predicted_at, onward}
-use Rattle.weighted.specs.declared.state.Answer.{Answer}
+use Rattle.weighted.specs.State.{Answered, predicted_at, onward}
 use Rattle.channel.proofs.Lengths.{filled_cells_length}
 use Rattle.channel.proofs.Neighbours.{AreWords, set_words, row_words, neighbour_words}
 
@@ -93,7 +92,7 @@ module _ (c : Given) where
     abbrev d : PredictionData
     d = rows_of s b.plane
 
-    abbrev a : Answer
+    abbrev a : Answered
     a = answered_by s b.memory d
 
     abbrev full : List ℤ

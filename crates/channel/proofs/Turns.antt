@@ -32,8 +32,7 @@ use Rattle.session.specs.Session.{is_lent, silent, rows_of, answered_by, may_ask
 use Rattle.session.specs.declared.Session.{Session}
 use Rattle.walk.specs.declared.PredictionResult.{PredictionResult}
 use Rattle.weighted.specs.Memory.{needed, previous, current}
-use Rattle.weighted.specs.State.{answered, predicted_at}
-use Rattle.weighted.specs.declared.state.Answer.{Answer}
+use Rattle.weighted.specs.State.{Answered, answered, predicted_at}
 use Rattle.channel.specs.Calls.{Sound}
 use Rattle.channel.specs.Channel.{Told, Scan, row_up, seven, predicted, cells_of, value_of, after}
 use Rattle.channel.proofs.Neighbours.{AreWords, row_words, neighbour_words}
@@ -154,14 +153,14 @@ module _ (t : Told) (records plane cells : List ℤ) (memory : List ℕ) (rows :
                 (sums_read_lem t.width s.past s.memory x y kept.errors (laid refl) in_row)
             by false laid = refl
 
-        abbrev answer : Answer
+        abbrev answer : Answered
         answer = answered here.weighted (predicted t s k)
 
         pub ask_walks : asks here s.plane (t.references k) records s.cells s.memory
             ≡ walked here answer (cells_of t s k) (t.walk (cells_of t s k) (seven t s k) (predicted t s k).guess)
         unfolding asks
         ask_walks =
-            let from : PredictionData → Answer → Asking = λ d a. walks_from here d a (t.references k) records s.cells in
+            let from : PredictionData → Answered → Asking = λ d a. walks_from here d a (t.references k) records s.cells in
             let d = rows_of here s.plane in
             ap (λ (o : Outcome Unit). ask_by o (from d (answered_by here s.memory d)) here s.cells) may_ask_lem
             ∙ ap (λ (d : PredictionData). from d (answered_by here s.memory d)) same_rows

@@ -1,3 +1,2 @@
 pub mod Granted
 mod Steps
-pub mod PixelsLoop

@@ -1,17 +1,15 @@
 -- Request [1] of document 02: a row in one call. First its tests, in the paper's order, then ask and put of each pixel as the single calls
 -- are; the first refusal ends it.
-use Rattle.std.specs.Prelude.{Bool, ◌&&◌, not, List, ◌≡◌, refl, ℕ, zero, suc, ◌+◌, ◌*◌, ◌/◌, ◌%◌, leb, eqb, ℤ, pos, length, get_or, set, take, drop}
+use Rattle.std.specs.Prelude.{Bool, ◌&&◌, not, List, ◌≡◌, refl, ℕ, zero, suc, ◌+◌, ◌*◌, ◌/◌, ◌%◌, leb, eqb, ℤ, pos, length, get_or, set, take, drop, Result, Ok, Err}
 use Rattle.std.proofs.Common.{ap, sym, ◌∙◌}
 use Rattle.blend.specs.Blend.{in_range}
 use Rattle.cells.specs.Cells.{cells_needed}
-use Rattle.refusal.specs.Paper.{Outcome, gives, refuses, paper, number_of, details_of, read_back, reads_back, one_value}
+use Rattle.refusal.specs.Paper.{Outcome, gives, refuses, number_of, details_of, read_back, reads_back, one_value}
+use Rattle.refusal.specs.declared.Refusal.{Refusal}
 use Rattle.session.specs.Session.{width, column, is_pixel, asks, puts}
 use Rattle.session.specs.declared.Session.{Session}
 use Rattle.weighted.specs.State.{test}
-use Rattle.row.specs.declared.Check.{Check}
-use Rattle.row.specs.declared.Check.TheVariants as check
-use Rattle.row.specs.declared.RowAnswer.{RowAnswer}
-use Rattle.row.specs.declared.RowAnswer.TheVariants as row
+use Rattle.row.specs.declared.Stopped.{Stopped}
 
 -- ---- the tests: 12, 11, 13
 
@@ -40,6 +38,19 @@ may_unpack s size residuals contexts references =
 pub data Ended : Type 0 where
   all : Session → Ended
   halted : ℕ → ℕ → List ℤ → Session → Ended
+
+-- what is told of it, and the session that is left
+pub data Answer : Type 0 where
+  complete : Answer
+  stopped : ℕ → ℕ → List ℤ → Answer
+
+abbrev pub answer_of : Ended → Answer
+answer_of (all s) = complete
+answer_of (halted pixels number details s) = stopped pixels number details
+
+abbrev pub session_of : Ended → Session
+session_of (all s) = s
+session_of (halted pixels number details s) = s
 
 pub record Row : Type 0 where
   pub ended : Ended
@@ -85,36 +96,29 @@ unpacks s residuals references records plane contexts cells m =
     (pixels_from residuals references records (length references / width s) (width s) 0 s plane contexts cells m)
     s plane contexts cells m
 
--- ---- the promise
+-- ---- the answer in these terms, and determinacy
 
-abbrev pub said_check : Check → Outcome Unit
-said_check check.Passed = gives tt
-said_check (check.Refused refusal) = paper refusal
+abbrev pub said : Result Unit Stopped → Answer
+said (Ok u) = complete
+said (Err e) = stopped e.pixels (number_of e.refusal) (details_of e.refusal)
 
-abbrev pub said : RowAnswer → Ended
-said (row.Done s) = all s
-said (row.Refused h) = halted h.pixels (number_of h.refusal) (details_of h.refusal) h.session
+abbrev unsaid : Answer → Result Unit Stopped
+unsaid complete = Ok tt
+unsaid (stopped pixels n ds) = Err (record { pixels = pixels; refusal = read_back n ds })
 
--- what is answered and left is this row
-pub record Leaves (it : Row) (r : RowAnswer) (plane : List ℤ) (contexts : List ℕ) (cells : List ℤ) (m : List ℕ) : Type 0 where
-  pub is : row_of (said r) plane contexts cells m ≡ it
+said_again : (r : Result Unit Stopped) → unsaid (said r) ≡ r
+said_again (Ok u) = refl
+said_again (Err e) = ap (λ (x : Refusal). Err (record { pixels = e.pixels; refusal = x })) (reads_back e.refusal)
 
--- ---- determinacy
-
-abbrev unsaid : Ended → RowAnswer
-unsaid (all s) = row.Done s
-unsaid (halted pixels n ds s) = row.Refused (record { session = s; pixels = pixels; refusal = read_back n ds })
-
-said_again : (r : RowAnswer) → unsaid (said r) ≡ r
-said_again (row.Done s) = refl
-said_again (row.Refused h) = ap (λ (x : _). row.Refused (record { session = h.session; pixels = h.pixels; refusal = x })) (reads_back h.refusal)
-
-abbrev answer_of : Row → RowAnswer
-answer_of it = unsaid it.ended
-
-pub unpacks_determined : {it : Row} {r t : RowAnswer} {plane plane' : List ℤ} {contexts contexts' : List ℕ} {cells cells' : List ℤ} {m m' : List ℕ}
-    → Leaves it r plane contexts cells m → Leaves it t plane' contexts' cells' m'
-    → (r ≡ t) × (row_of (said r) plane contexts cells m ≡ row_of (said t) plane' contexts' cells' m')
-unpacks_determined {r = r} {t = t} p q =
-    let same = one_value p.is q.is in
-    (sym (said_again r) ∙ ap answer_of same ∙ said_again t, same)
+pub unpacks_determined : (it : Row) {r t : Result Unit Stopped} {s s₁ : Session} {plane plane₁ : List ℤ} {contexts contexts₁ : List ℕ} {cells cells₁ : List ℤ} {m m₁ : List ℕ}
+    → said r ≡ answer_of it.ended → s ≡ session_of it.ended → plane ≡ it.plane → contexts ≡ it.contexts → cells ≡ it.cells → m ≡ it.memory
+    → said t ≡ answer_of it.ended → s₁ ≡ session_of it.ended → plane₁ ≡ it.plane → contexts₁ ≡ it.contexts → cells₁ ≡ it.cells → m₁ ≡ it.memory
+    → (r ≡ t) × (s ≡ s₁) × (plane ≡ plane₁) × (contexts ≡ contexts₁) × (cells ≡ cells₁) × (m ≡ m₁)
+unpacks_determined it {r} {t} a b c d e f a₁ b₁ c₁ d₁ e₁ f₁ = (
+  sym (said_again r) ∙ ap unsaid (one_value a a₁) ∙ said_again t,
+  one_value b b₁,
+  one_value c c₁,
+  one_value d d₁,
+  one_value e e₁,
+  one_value f f₁,
+)

@@ -1,44 +1,30 @@
 // Request [1] of document 02: a row of a session's channel in one call, ask and put of each pixel.
 #![tactic(auto)]
 
-ghost use Rattle.std.specs.Prelude.{length, ◌≡◌, ◌+◌, ◌*◌, ◌/◌, ◌≤◌, ◌<◌};
-ghost use Rattle.refusal.specs.Paper.{details_of, number_of};
+ghost use Rattle.std.specs.Prelude.{length, ◌≡◌, ◌*◌, ◌≤◌, ◌<◌};
+ghost use Rattle.refusal.specs.Paper as paper;
 ghost use Rattle.row.specs.Row.{
-  Leaves,
+  answer_of,
   fits,
-  halted,
   is_row_due,
   is_row_of,
   may_unpack,
   pixels_from,
   said,
-  said_check,
+  session_of,
   unpacks,
 };
 
 use cells::cells_needed;
 use colour::rows::has_row;
 use refusal::Refusal;
-use session::{AskAnswer, Kept, PutAnswer, Session};
+use session::Session;
 
-// A refusal, how many pixels of the row were put before it, and the session as the refused call left it.
-#[derive(Clone, Copy)]
-pub struct Halted {
-    pub session: Session,
+// A refusal, and how many pixels of the row were put before it.
+#[derive(Clone, Copy, Debug, PartialEq, Eq)]
+pub struct Stopped {
     pub pixels: u32,
     pub refusal: Refusal,
-}
-
-#[derive(Clone, Copy)]
-pub enum RowAnswer {
-    Done(Session),
-    Refused(Halted),
-}
-
-#[derive(Clone, Copy)]
-pub enum Check {
-    Passed,
-    Refused(Refusal),
 }
 
 // Whether there is a residual and a context for each pixel, and reference cells, as many for each.
@@ -46,101 +32,59 @@ fn fits(width: usize, residuals: usize, contexts: usize, references: usize) -> b
     requires { 0 < width }
     ensures { result ≡ fits width residuals contexts references }
 {
-    if residuals != width {
-        return false;
-    }
-    if contexts != width {
-        return false;
-    }
-    references % width == 0
+    residuals == width && contexts == width && references % width == 0
 }
 
 // Whether the session's pixel lies in the plane, the lists have its row's length, and 32 bits can say how many cells a pixel needs.
 fn is_row_of(
-    session: Session,
+    session: &Session,
     size: usize,
     residuals: usize,
     contexts: usize,
     references: &[i32],
 ) -> bool
-    ensures { result ≡ is_row_of session size residuals contexts (length references.now) }
+    ensures { result ≡ is_row_of session.now size residuals contexts (length references.now) }
 {
-    let weighted = session.weighted;
-    let width = weighted.width;
-    let x = weighted.x;
-    if !has_row(size, width, weighted.y) {
-        return false;
-    }
-    if width <= x {
-        return false;
-    }
-    if !fits(width, residuals, contexts, references.len()) {
-        return false;
-    }
-    let each = references.len() / width;
-    cells_needed(session.mask, &references[..each]) <= 4294967295
+    let state = &session.weighted;
+    let width = state.width;
+    has_row(size, width, state.y)
+        && state.x < width
+        && fits(width, residuals, contexts, references.len())
+        && cells_needed(session.mask, &references[..references.len() / width]) <= 4294967295
 }
 
 // Whether an ask that opens a row is due.
-fn is_row_due(session: Session) -> bool
-    ensures { result ≡ is_row_due session }
+fn is_row_due(session: &Session) -> bool
+    ensures { result ≡ is_row_due session.now }
 {
-    let weighted = session.weighted;
-    let x = weighted.x;
-    let asked = weighted.asked;
-    let live = session.live;
-    if !live {
-        return false;
-    }
-    if asked {
-        return false;
-    }
-    x == 0
+    session.live && !session.weighted.asked && session.weighted.x == 0
 }
 
 // Whether a row may be unpacked, in the order of the paper: header, place and lists, turn.
 fn check_row(
-    session: Session,
+    session: &Session,
     size: usize,
     residuals: usize,
     contexts: usize,
     references: &[i32],
-) -> Check
-    ensures { said_check result ≡ may_unpack session size residuals contexts (length references.now) }
+) -> Result<(), Refusal>
+    ensures { paper.said result ≡ may_unpack session.now size residuals contexts (length references.now) }
 {
-    let weighted = session.weighted;
-    let inside = is_row_of(session, size, residuals, contexts, references);
-    let due = is_row_due(session);
-    if !weighted.header.in_range() {
-        return Check::Refused(Refusal::HeaderRange);
+    if !session.weighted.header.in_range() {
+        return Err(Refusal::HeaderRange);
     }
-    if !inside {
-        return Check::Refused(Refusal::WrongSize);
+    if !is_row_of(session, size, residuals, contexts, references) {
+        return Err(Refusal::WrongSize);
     }
-    if !due {
-        return Check::Refused(Refusal::OutOfTurn);
+    if !is_row_due(session) {
+        return Err(Refusal::OutOfTurn);
     }
-    Check::Passed
-}
-
-// The refusal of a single call, so many pixels into the row.
-fn stopped(kept: Kept, pixels: usize) -> RowAnswer
-    requires { pixels ≤ 65536 }
-    ensures { said result ≡ halted pixels (number_of kept.refusal) (details_of kept.refusal) kept.session }
-{
-    let session = kept.session;
-    let refusal = kept.refusal;
-    let before = pixels as u32;
-    RowAnswer::Refused(Halted {
-        session,
-        pixels: before,
-        refusal,
-    })
+    Ok(())
 }
 
 // Ask and put of each pixel; the first refusal ends it.
 fn pixels(
-    opened: Session,
+    session: &mut Session,
     residuals: &[i32],
     references: &[i32],
     each: usize,
@@ -149,48 +93,46 @@ fn pixels(
     contexts: &mut [u32],
     cells: &mut [i32],
     memory: &mut [u32],
-) -> RowAnswer
+) -> Result<(), Stopped>
     requires { (length residuals.now ≤ 65536) × (length contexts.old ≡ length residuals.now) × (length residuals.now * each ≤ length references.now) }
-    ensures { Leaves (pixels_from residuals.now references.now records.now each (length residuals.now) 0 opened plane.old contexts.old cells.old memory.old) result plane.new contexts.new cells.new memory.new }
+    ensures answers { said result ≡ answer_of (pixels_from residuals.now references.now records.now each (length residuals.now) 0 session.old plane.old contexts.old cells.old memory.old).ended }
+    ensures session_is { session.new ≡ session_of (pixels_from residuals.now references.now records.now each (length residuals.now) 0 session.old plane.old contexts.old cells.old memory.old).ended }
+    ensures plane_is { plane.new ≡ (pixels_from residuals.now references.now records.now each (length residuals.now) 0 session.old plane.old contexts.old cells.old memory.old).plane }
+    ensures contexts_are { contexts.new ≡ (pixels_from residuals.now references.now records.now each (length residuals.now) 0 session.old plane.old contexts.old cells.old memory.old).contexts }
+    ensures cells_are { cells.new ≡ (pixels_from residuals.now references.now records.now each (length residuals.now) 0 session.old plane.old contexts.old cells.old memory.old).cells }
+    ensures memory_is { memory.new ≡ (pixels_from residuals.now references.now records.now each (length residuals.now) 0 session.old plane.old contexts.old cells.old memory.old).memory }
 {
-    let mut session = opened;
-    let mut k = 0;
-    while k < residuals.len() {
+    for k in 0..residuals.len() {
         let from = k * each;
-        let asked = session.ask(
+        match session.ask(
             plane,
             &references[from..from + each],
             records,
             cells,
             memory,
-        );
-        match asked {
-            AskAnswer::Is(waiting) => {
-                let asking = waiting.session;
-                contexts[k] = waiting.context;
-                let put = asking.put(residuals[k], plane, memory);
-                match put {
-                    PutAnswer::Done(next) => {
-                        session = next;
-                    }
-                    PutAnswer::Refused(kept) => {
-                        return stopped(kept, k);
-                    }
-                }
-            }
-            AskAnswer::Refused(kept) => {
-                return stopped(kept, k);
+        ) {
+            Ok(context) => contexts[k] = context,
+            Err(refusal) => {
+                return Err(Stopped {
+                    pixels: k as u32,
+                    refusal,
+                });
             }
         }
-        k += 1;
+        if let Err(refusal) = session.put(residuals[k], plane, memory) {
+            return Err(Stopped {
+                pixels: k as u32,
+                refusal,
+            });
+        }
     }
-    RowAnswer::Done(session)
+    Ok(())
 }
 
 // A row from its residuals and its reference cells, packed, as many for each pixel: as the single calls of its pixels are. A refusal of
-// the tests changes nothing; at a later one the pixels before it stay.
+// the tests changes nothing; at a later one the pixels before it stay, and the session is as the refused call left it.
 pub fn unpack_row(
-    session: Session,
+    session: &mut Session,
     residuals: &[i32],
     references: &[i32],
     records: &[i32],
@@ -198,27 +140,25 @@ pub fn unpack_row(
     contexts: &mut [u32],
     cells: &mut [i32],
     memory: &mut [u32],
-) -> RowAnswer
-    ensures { Leaves (unpacks session residuals.now references.now records.now plane.old contexts.old cells.old memory.old) result plane.new contexts.new cells.new memory.new }
+) -> Result<(), Stopped>
+    ensures answers { said result ≡ answer_of (unpacks session.old residuals.now references.now records.now plane.old contexts.old cells.old memory.old).ended }
+    ensures session_is { session.new ≡ session_of (unpacks session.old residuals.now references.now records.now plane.old contexts.old cells.old memory.old).ended }
+    ensures plane_is { plane.new ≡ (unpacks session.old residuals.now references.now records.now plane.old contexts.old cells.old memory.old).plane }
+    ensures contexts_are { contexts.new ≡ (unpacks session.old residuals.now references.now records.now plane.old contexts.old cells.old memory.old).contexts }
+    ensures cells_are { cells.new ≡ (unpacks session.old residuals.now references.now records.now plane.old contexts.old cells.old memory.old).cells }
+    ensures memory_is { memory.new ≡ (unpacks session.old residuals.now references.now records.now plane.old contexts.old cells.old memory.old).memory }
 {
-    let checked = check_row(
+    if let Err(refusal) = check_row(
         session,
         plane.len(),
         residuals.len(),
         contexts.len(),
         references,
-    );
-    match checked {
-        Check::Refused(refusal) => RowAnswer::Refused(Halted {
-            session,
-            pixels: 0,
-            refusal,
-        }),
-        Check::Passed => {
-            let each = references.len() / residuals.len();
-            pixels(
-                session, residuals, references, each, records, plane, contexts, cells, memory,
-            )
-        }
+    ) {
+        return Err(Stopped { pixels: 0, refusal });
     }
+    let each = references.len() / residuals.len();
+    pixels(
+        session, residuals, references, each, records, plane, contexts, cells, memory,
+    )
 }

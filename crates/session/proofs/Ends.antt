@@ -1,88 +1,80 @@
 -- What a call says and leaves, from what its parts say.
 use lib.IntN.{ℤ}
 use lib.ListN.{length, set}
-use mathlib.Core.Bool.{Bool}
+use mathlib.Core.Bool.{Bool, true}
 use mathlib.Core.List.{List}
-use mathlib.Core.Path.{◌≡◌, ap, ◌∙◌}
-use Prim.Native.Nat.{ℕ, ◌+◌, ◌*◌}
+use mathlib.Core.Path.{◌≡◌, sym, ap, ◌∙◌}
+use Prim.Native.Nat.{ℕ, ◌+◌, ◌-◌, ◌*◌}
+use Rattle.blend.specs.declared.Prediction.{Prediction}
 use Rattle.blend.specs.declared.WeightedHeader.{WeightedHeader}
-use Rattle.cells.specs.Cells.{start_cells, filled_cells}
+use Rattle.cells.specs.Cells.{outcome, start_cells}
+use Rattle.colour.specs.Rows.{row_of}
 use Rattle.flat.specs.FlatWalk.{flat_of}
 use Rattle.integer.specs.Fill.{filled}
 use Rattle.integer.specs.Order.{if}
+use Rattle.predict.specs.Neighbours.{neighbours}
 use Rattle.predict.specs.declared.neighbours.PredictionData.{PredictionData}
-use Rattle.refusal.specs.Paper.{Outcome, gives, paper}
-use Rattle.refusal.specs.declared.Refusal.{Refusal}
+use Rattle.refusal.proofs.Outcomes.{same_given, no_refusal}
+use Rattle.refusal.specs.Paper.{Outcome, gives, refuses}
 use Rattle.walk.specs.declared.PredictionResult.{PredictionResult}
-use Rattle.weighted.specs.declared.state.Answer.{Answer}
 use Rattle.weighted.specs.Memory.{needed}
-use Rattle.weighted.specs.State.{onward}
-use Rattle.session.specs.Session.{width, column, line, closed, waiting, walked, walks_from, rows_of, answered_by, ask_by, may_ask, asks, Asking, Walks, Asks, passed, unpacked, learnt, put_by, may_put, puts, Putting, Puts, fresh, open_by, may_open, opens, Opening, Opens}
-use Rattle.session.specs.declared.AskAnswer.{AskAnswer}
-use Rattle.session.specs.declared.AskAnswer.TheVariants as asked
-use Rattle.session.specs.declared.OpenAnswer.TheVariants as opened
-use Rattle.session.specs.declared.PutAnswer.TheVariants as put
+use Rattle.weighted.specs.State.{answered, onward}
+use Rattle.session.proofs.Granted.{AskGranted, ask_granted, fetches, finds_so, found_at, fills}
+use Rattle.session.specs.Session.{width, column, line, pixel_cells, walked, walks_from, rows_of, answered_by, ask_by, may_ask, asks, Asking, passed, unpacked, learnt, put_by, may_put, puts, Putting, fresh, open_by, may_open, opens, Opening}
+use Rattle.session.specs.Weights.{finds}
 use Rattle.session.specs.declared.Session.{Session}
-
--- ---- the walk of an ask
-
-module _ (s : Session) (d : PredictionData) (a : Answer) (references records cells : List ℤ) where
-  abbrev full : List ℤ
-  full = filled_cells s.mask (column s) (line s) d a.property references cells
-
-  pub refused_walk : (refusal : Refusal) (next : Session) {cells' : List ℤ} → paper refusal ≡ flat_of records full d a.guess → next ≡ closed s → cells' ≡ full
-      → Walks s d a references records cells (asked.Refused (record { session = next; refusal = refusal })) cells'
-  refused_walk refusal next says is are =
-      let ends = ap (walked s a full) says in
-      record {
-        answers = ap (λ (e : Asking). e.says) ends;
-        session_is = is ∙ ap (λ (e : Asking). e.session) ends;
-        cells_are = are ∙ ap (λ (e : Asking). e.cells) ends;
-      }
-
-  pub ended_walk : (r : PredictionResult) (next : Session) {cells' : List ℤ} → gives r ≡ flat_of records full d a.guess → next ≡ waiting s a r → cells' ≡ full
-      → Walks s d a references records cells (asked.Is (record { session = next; context = r.context })) cells'
-  ended_walk r next says is are =
-      let ends = ap (walked s a full) says in
-      record {
-        answers = ap (λ (e : Asking). e.says) ends;
-        session_is = is ∙ ap (λ (e : Asking). e.session) ends;
-        cells_are = are ∙ ap (λ (e : Asking). e.cells) ends;
-      }
 
 -- ---- ask
 
 module _ (s : Session) (plane references records cells : List ℤ) (m : List ℕ) where
+  abbrev tests : Outcome Unit
+  tests = may_ask s (length plane) (length references) records (length cells) (length m)
+
   abbrev asking : Outcome Unit → Asking
   asking o = ask_by o (walks_from s (rows_of s plane) (answered_by s m (rows_of s plane)) references records cells) s cells
 
-  pub ask_refused : (refusal : Refusal) → paper refusal ≡ may_ask s (length plane) (length references) records (length cells) (length m)
-      → Asks s plane references records cells m (asked.Refused (record { session = s; refusal = refusal })) cells
+  pub ask_refused : {number : ℕ} {details : List ℤ} → refuses number details ≡ tests
+      → asks s plane references records cells m ≡ record { says = refuses number details; session = s; cells = cells }
   unfolding asks
-  ask_refused refusal says =
-      let ends = ap asking says in
-      record {
-        answers = ap (λ (e : Asking). e.says) ends;
-        session_is = ap (λ (e : Asking). e.session) ends;
-        cells_are = ap (λ (e : Asking). e.cells) ends;
-      }
+  ask_refused says = ap asking (sym says)
 
-  pub ask_walked : {r : AskAnswer} {cells' : List ℤ} (d : PredictionData) (a : Answer) → gives tt ≡ may_ask s (length plane) (length references) records (length cells) (length m)
-      → d ≡ rows_of s plane → a ≡ answered_by s m (rows_of s plane) → Walks s d a references records cells r cells'
-      → Asks s plane references records cells m r cells'
-  unfolding asks
-  ask_walked d a says seven is w =
-      let ends = ap (λ (x : PredictionData). walks_from s x a references records cells) seven ∙ ap (λ (x : Answer). walks_from s (rows_of s plane) x references records cells) is ∙ ap asking says in
-      record {
-        answers = w.answers ∙ ap (λ (e : Asking). e.says) ends;
-        session_is = w.session_is ∙ ap (λ (e : Asking). e.session) ends;
-        cells_are = w.cells_are ∙ ap (λ (e : Asking). e.cells) ends;
-      }
+  module _ (says : gives tt ≡ tests) where
+    granted : AskGranted s (length plane) (length references) (length cells) (length m)
+    granted = ask_granted s (length plane) (length references) records (length cells) (length m) (sym says)
+
+    abbrev around : Outcome PredictionData
+    around = neighbours (row_of plane (width s) (line s)) (row_of plane (width s) (line s - 1)) (row_of plane (width s) (line s - 2)) (column s) (line s)
+
+    -- neither the fetch nor the weighted state refuses, and there is room for the cells
+    pub fetch_passes : {number : ℕ} {details : List ℤ} → refuses number details ≡ around → ⊥
+    fetch_passes e = no_refusal (e ∙ fetches s plane granted.placed)
+
+    found : (d : PredictionData) → finds s.weights s.weighted m d ≡ gives (found_at s m d)
+    found d = finds_so s (length plane) (length references) (length cells) m d granted
+
+    pub predict_passes : (d : PredictionData) {number : ℕ} {details : List ℤ} → refuses number details ≡ finds s.weights s.weighted m d → ⊥
+    predict_passes d e = no_refusal (e ∙ found d)
+
+    pub has_cells : outcome s.mask (column s) (line s) (length references) (length cells) ≡ gives tt
+    has_cells = fills s granted.placed (length references) (length cells) granted.sayable granted.room
+
+    pub living : s.live ≡ true
+    living = granted.living
+
+    -- past the tests the walk decides
+    pub ask_walked : {d : PredictionData} {p : Prediction} {cells' : List ℤ} (o : Outcome PredictionResult)
+        → gives d ≡ around → gives p ≡ finds s.weights s.weighted m d → cells' ≡ pixel_cells s d p.property references cells → o ≡ flat_of records cells' d p.guess
+        → asks s plane references records cells m ≡ walked s (answered s.weighted p) cells' o
+    unfolding asks pixel_cells
+    ask_walked {d} {p} {cells'} o seven is full walks =
+        let rows : d ≡ rows_of s plane = same_given (seven ∙ fetches s plane granted.placed) in
+        let prediction : p ≡ found_at s m d = same_given (is ∙ found d) in
+        ap asking (sym says) ∙ rw (walks, full, prediction, rows)
 
 -- ---- put
 
 module _ (s : Session) (residual : ℤ) (plane : List ℤ) (m : List ℕ) where
-  abbrev stored : Putting
+  abbrev pub stored : Putting
   stored =
       record {
         says = gives tt;
@@ -91,35 +83,19 @@ module _ (s : Session) (residual : ℤ) (plane : List ℤ) (m : List ℕ) where
         memory = learnt s m (unpacked s residual);
       }
 
-  pub put_refused : (refusal : Refusal) → paper refusal ≡ may_put s (length plane) (length m)
-      → Puts s residual plane m (put.Refused (record { session = s; refusal = refusal })) plane m
+  pub put_refused : {number : ℕ} {details : List ℤ} → refuses number details ≡ may_put s (length plane) (length m)
+      → puts s residual plane m ≡ record { says = refuses number details; session = s; plane = plane; memory = m }
   unfolding puts
-  put_refused refusal says =
-      let ends = ap (λ (o : Outcome Unit). put_by o stored s plane m) says in
-      record {
-        answers = ap (λ (e : Putting). e.says) ends;
-        session_is = ap (λ (e : Putting). e.session) ends;
-        plane_is = ap (λ (e : Putting). e.plane) ends;
-        memory_is = ap (λ (e : Putting). e.memory) ends;
-      }
+  put_refused says = ap (λ (o : Outcome Unit). put_by o stored s plane m) (sym says)
 
-  pub put_done : (next : Session) {plane' : List ℤ} {m' : List ℕ} → gives tt ≡ may_put s (length plane) (length m) → next ≡ passed s (onward s.weighted)
-      → plane' ≡ set plane (line s * width s + column s) (unpacked s residual) → m' ≡ learnt s m (unpacked s residual)
-      → Puts s residual plane m (put.Done next) plane' m'
+  pub put_done : gives tt ≡ may_put s (length plane) (length m) → puts s residual plane m ≡ stored
   unfolding puts
-  put_done next says is stores learns =
-      let ends = ap (λ (o : Outcome Unit). put_by o stored s plane m) says in
-      record {
-        answers = ap (λ (e : Putting). e.says) ends;
-        session_is = is ∙ ap (λ (e : Putting). e.session) ends;
-        plane_is = stores ∙ ap (λ (e : Putting). e.plane) ends;
-        memory_is = learns ∙ ap (λ (e : Putting). e.memory) ends;
-      }
+  put_done says = ap (λ (o : Outcome Unit). put_by o stored s plane m) (sym says)
 
 -- ---- open
 
 module _ (w : ℕ) (h : WeightedHeader) (weights : Bool) (mask : ℕ) (channel stream : ℤ) (cells : List ℤ) (m : List ℕ) where
-  abbrev started : Opening
+  abbrev pub started : Opening
   started =
       record {
         says = gives (fresh h w weights mask);
@@ -127,25 +103,11 @@ module _ (w : ℕ) (h : WeightedHeader) (weights : Bool) (mask : ℕ) (channel s
         memory = if weights (filled (λ k. 0) (needed w) m) m;
       }
 
-  pub open_refused : (refusal : Refusal) → paper refusal ≡ may_open h w weights (length cells) (length m)
-      → Opens w h weights mask channel stream cells m (opened.Refused refusal) cells m
+  pub open_refused : {number : ℕ} {details : List ℤ} → refuses number details ≡ may_open h w weights (length cells) (length m)
+      → opens w h weights mask channel stream cells m ≡ record { says = refuses number details; cells = cells; memory = m }
   unfolding opens
-  open_refused refusal says =
-      let ends = ap (λ (o : Outcome Unit). open_by o started cells m) says in
-      record {
-        answers = ap (λ (e : Opening). e.says) ends;
-        cells_are = ap (λ (e : Opening). e.cells) ends;
-        memory_is = ap (λ (e : Opening). e.memory) ends;
-      }
+  open_refused says = ap (λ (o : Outcome Unit). open_by o started cells m) (sym says)
 
-  pub open_done : (s : Session) {cells' : List ℤ} {m' : List ℕ} → gives tt ≡ may_open h w weights (length cells) (length m) → s ≡ fresh h w weights mask
-      → cells' ≡ start_cells channel stream (length cells) → m' ≡ if weights (filled (λ k. 0) (needed w) m) m
-      → Opens w h weights mask channel stream cells m (opened.Is s) cells' m'
+  pub open_done : gives tt ≡ may_open h w weights (length cells) (length m) → opens w h weights mask channel stream cells m ≡ started
   unfolding opens
-  open_done s says is starts clears =
-      let ends = ap (λ (o : Outcome Unit). open_by o started cells m) says in
-      record {
-        answers = ap gives is ∙ ap (λ (e : Opening). e.says) ends;
-        cells_are = starts ∙ ap (λ (e : Opening). e.cells) ends;
-        memory_is = clears ∙ ap (λ (e : Opening). e.memory) ends;
-      }
+  open_done says = ap (λ (o : Outcome Unit). open_by o started cells m) (sym says)

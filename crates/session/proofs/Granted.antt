@@ -10,6 +10,7 @@ use mathlib.Core.Path.{◌≡◌, refl, sym, ◌∙◌}
 use native.Mathlib.Omega.{arith}
 use Prim.Native.Nat.{ℕ, ◌+◌, ◌-◌, ◌*◌, ◌/◌, ◌%◌, ◌≤◌, ◌<◌, ◌^◌}
 use Rattle.blend.specs.Blend.{in_range, possible}
+use Rattle.blend.specs.declared.Prediction.{Prediction}
 use Rattle.blend.specs.declared.WeightedHeader.{WeightedHeader}
 use Rattle.cells.specs.Cells.{cells_needed, outcome}
 use Rattle.colour.proofs.RowWithin.{within}
@@ -26,7 +27,7 @@ use Rattle.weighted.proofs.Allowed.{may, test_passed}
 use Rattle.weighted.specs.Memory.{needed}
 use Rattle.weighted.specs.State.{test, is_width, is_place, at_start, answered, predicted_at, onward, puts}
 use Rattle.session.specs.Session.{width, column, line, is_pixel, is_lent, is_due, some_records, has_room, may_open, may_ask, may_put, rows_of, silent, answered_by, learnt}
-use Rattle.session.specs.Weights.{starts, starts_on, answers_of, learns, learns_on}
+use Rattle.session.specs.Weights.{starts, starts_on, finds, learns, learns_on}
 use Rattle.session.specs.declared.Session.{Session}
 
 pub record Pixel (s : Session) (size : ℕ) : Type 0 where
@@ -73,6 +74,7 @@ pub record AskGranted (s : Session) (size references : ℕ) (cells lent : ℕ) :
   pub is_pixel_lem : is_pixel s size ≡ true
   pub placed : Pixel s size
   pub sayable : cells_needed s.mask references ≤ 4294967295
+  pub living : s.live ≡ true
   pub turn : not s.weighted.asked ≡ true
   pub memory : is_lent s.weights (width s) lent ≡ true
   pub room : cells_needed s.mask references ≤ cells
@@ -92,6 +94,7 @@ ask_granted s size references records cells lent e =
       is_pixel_lem = and_left (is_pixel s size) (leb need 4294967295) place.0;
       placed = pixel s size (and_left (is_pixel s size) (leb need 4294967295) place.0);
       sayable = leb-true need 4294967295 (and_right (is_pixel s size) (leb need 4294967295) place.0);
+      living = and_left s.live (not s.weighted.asked) its_turn.0;
       turn = and_right s.live (not s.weighted.asked) its_turn.0;
       memory = memory.0;
       room = leb-true need cells room.0;
@@ -163,11 +166,15 @@ fetches s plane p =
 
 -- ---- the weighted state
 
-pub answers : (s : Session) (size references : ℕ) (cells : ℕ) (m : List ℕ) (d : PredictionData) → AskGranted s size references cells (length m)
-    → answers_of s.weights s.weighted m d ≡ gives (answered_by s m d)
-answers s size references cells m d g = by s.weights g.memory
+-- what is found at the session's place
+abbrev pub found_at : Session → List ℕ → PredictionData → Prediction
+found_at s m d = if s.weights (predicted_at s.weighted m d) silent
+
+pub finds_so : (s : Session) (size references : ℕ) (cells : ℕ) (m : List ℕ) (d : PredictionData) → AskGranted s size references cells (length m)
+    → finds s.weights s.weighted m d ≡ gives (found_at s m d)
+finds_so s size references cells m d g = by s.weights g.memory
   where
-    by : (t : Bool) → is_lent t (width s) (length m) ≡ true → answers_of t s.weighted m d ≡ gives (answered s.weighted (if t (predicted_at s.weighted m d) silent))
+    by : (t : Bool) → is_lent t (width s) (length m) ≡ true → finds t s.weighted m d ≡ gives (if t (predicted_at s.weighted m d) silent)
     by true enough = may s.weighted (not s.weighted.asked) (length m) _ g.header_in_range (place s g.placed) g.turn (leb-true (needed (width s)) (length m) enough)
     by false enough = refl
 

@@ -1,7 +1,6 @@
 -- Module 10 of document 01: a channel, pixel after pixel. Each call is first its tests, in the paper's order, then what the modules below
 -- say of the pixel at the session's place.
-use Rattle.std.specs.Prelude.{Bool, true, false, ◌&&◌, not, List, [], ◌∷◌, ◌≡◌, refl, ℕ, ◌+◌, ◌-◌, ◌*◌, ltb, leb, eqb, ℤ, pos, ◌+ℤ◌, ◌*ℤ◌, length, set}
-use Rattle.std.proofs.Common.{ap, ap₂, sym, ◌∙◌}
+use Rattle.std.specs.Prelude.{Bool, true, false, ◌&&◌, not, List, [], ◌∷◌, ◌≡◌, ℕ, ◌+◌, ◌-◌, ◌*◌, ltb, leb, eqb, ℤ, pos, ◌+ℤ◌, ◌*ℤ◌, length, set, Result}
 use Rattle.blend.specs.Blend.{in_range, errors_of, possible}
 use Rattle.blend.specs.declared.Prediction.{Prediction}
 use Rattle.blend.specs.declared.WeightedHeader.{WeightedHeader}
@@ -15,32 +14,17 @@ use Rattle.integer.specs.Word.{wrap}
 use Rattle.nodes.specs.Nodes.{then}
 use Rattle.predict.specs.Neighbours.{fetched, present}
 use Rattle.predict.specs.declared.neighbours.PredictionData.{PredictionData}
-use Rattle.refusal.specs.Paper.{Outcome, gives, refuses, paper, read_back, reads_back, one_answer, one_value}
+use Rattle.refusal.specs.Paper.{Outcome, gives, refuses, said, one_result, one_value}
+use Rattle.refusal.specs.declared.Refusal.{Refusal}
 use Rattle.walk.specs.declared.PredictionResult.{PredictionResult}
 use Rattle.weighted.specs.Memory.{needed, updated}
-use Rattle.weighted.specs.State.{test, is_width, at_start, nothing, answered, predicted_at, onward}
-use Rattle.weighted.specs.declared.state.Answer.{Answer}
+use Rattle.weighted.specs.State.{test, is_width, at_start, nothing, Answered, answered, predicted_at, onward}
 use Rattle.weighted.specs.declared.state.WeightedState.{WeightedState}
 use Rattle.session.specs.declared.Session.{Session}
-use Rattle.session.specs.declared.checks.Check.{Check}
-use Rattle.session.specs.declared.checks.Check.TheVariants as check
-use Rattle.session.specs.declared.OpenAnswer.{OpenAnswer}
-use Rattle.session.specs.declared.OpenAnswer.TheVariants as opened
-use Rattle.session.specs.declared.AskAnswer.{AskAnswer}
-use Rattle.session.specs.declared.AskAnswer.TheVariants as asked
-use Rattle.session.specs.declared.PutAnswer.{PutAnswer}
-use Rattle.session.specs.declared.PutAnswer.TheVariants as put
 
 -- the words of memory that are lent suffice; with weights off none is needed
 abbrev pub is_lent : Bool → ℕ → ℕ → Bool
 is_lent weights width lent = if weights (leb (needed width) lent) true
-
-abbrev pub memory_refused : ℕ → Outcome Unit
-memory_refused width = refuses 8 (pos (needed width) ∷ [])
-
-abbrev pub said_check : Check → Outcome Unit
-said_check check.Passed = gives tt
-said_check (check.Refused refusal) = paper refusal
 
 -- ---- opening: 12, 11, 8, 10
 
@@ -102,7 +86,7 @@ module _ (s : Session) where
       fetched (row_of plane width line) (present 1 line (row_of plane width (line - 1))) (present 2 line (row_of plane width (line - 2))) column
 
   -- what the weighted state answers
-  abbrev pub answered_by : List ℕ → PredictionData → Answer
+  abbrev pub answered_by : List ℕ → PredictionData → Answered
   answered_by m d = answered s.weighted (if s.weights (predicted_at s.weighted m d) silent)
 
 -- ---- ask: 12, 11, 13, 1, 2, 5, 8, 10, then the walk
@@ -127,7 +111,7 @@ may_ask s size references records cells lent =
     (then (some_records (counted records)) (has_room s references cells lent))))
 
 -- the session remembers what was found, for the put
-abbrev pub waiting : Session → Answer → PredictionResult → Session
+abbrev pub waiting : Session → Answered → PredictionResult → Session
 waiting s a r =
     record {
       weighted = a.state;
@@ -154,11 +138,15 @@ ask_by (gives done) next s cells = next
 ask_by (refuses number details) next s cells = record { says = refuses number details; session = s; cells = cells }
 
 -- a refusal of the walk closes the session; the cells are filled either way
-abbrev pub walked : Session → Answer → List ℤ → Outcome PredictionResult → Asking
+abbrev pub walked : Session → Answered → List ℤ → Outcome PredictionResult → Asking
 walked s a cells (gives r) = record { says = gives r.context; session = waiting s a r; cells = cells }
 walked s a cells (refuses number details) = record { says = refuses number details; session = closed s; cells = cells }
 
-abbrev pub walks_from : Session → PredictionData → Answer → List ℤ → List ℤ → List ℤ → Asking
+-- the cells of the pixel at the session's place, filled
+unfoldable pub pixel_cells : Session → PredictionData → ℤ → List ℤ → List ℤ → List ℤ
+pixel_cells s d property references cells = filled_cells s.mask (column s) (line s) d property references cells
+
+abbrev pub walks_from : Session → PredictionData → Answered → List ℤ → List ℤ → List ℤ → Asking
 walks_from s d a references records cells =
     let full = filled_cells s.mask (column s) (line s) d a.property references cells in
     walked s a full (flat_of records full d a.guess)
@@ -224,96 +212,32 @@ puts s residual plane m =
     })
     s plane m
 
--- ---- the promises
-
-abbrev pub said_opened : OpenAnswer → Outcome Session
-said_opened (opened.Is s) = gives s
-said_opened (opened.Refused refusal) = paper refusal
-
-abbrev pub said_asked : AskAnswer → Outcome ℕ
-said_asked (asked.Is w) = gives w.context
-said_asked (asked.Refused k) = paper k.refusal
-
-abbrev pub session_asked : AskAnswer → Session
-session_asked (asked.Is w) = w.session
-session_asked (asked.Refused k) = k.session
-
-abbrev pub said_put : PutAnswer → Outcome Unit
-said_put (put.Done s) = gives tt
-said_put (put.Refused k) = paper k.refusal
-
-abbrev pub session_put : PutAnswer → Session
-session_put (put.Done s) = s
-session_put (put.Refused k) = k.session
-
-module _ (width : ℕ) (h : WeightedHeader) (weights : Bool) (mask : ℕ) (channel stream : ℤ) (cells : List ℤ) (m : List ℕ) where
-  pub record Opens (r : OpenAnswer) (cells' : List ℤ) (m' : List ℕ) : Type 0 where
-    pub answers : said_opened r ≡ (opens width h weights mask channel stream cells m).says
-    pub cells_are : cells' ≡ (opens width h weights mask channel stream cells m).cells
-    pub memory_is : m' ≡ (opens width h weights mask channel stream cells m).memory
-
-module _ (s : Session) (plane references records cells : List ℤ) (m : List ℕ) where
-  pub record Asks (r : AskAnswer) (cells' : List ℤ) : Type 0 where
-    pub answers : said_asked r ≡ (asks s plane references records cells m).says
-    pub session_is : session_asked r ≡ (asks s plane references records cells m).session
-    pub cells_are : cells' ≡ (asks s plane references records cells m).cells
-
-module _ (s : Session) (residual : ℤ) (plane : List ℤ) (m : List ℕ) where
-  pub record Puts (r : PutAnswer) (plane' : List ℤ) (m' : List ℕ) : Type 0 where
-    pub answers : said_put r ≡ (puts s residual plane m).says
-    pub session_is : session_put r ≡ (puts s residual plane m).session
-    pub plane_is : plane' ≡ (puts s residual plane m).plane
-    pub memory_is : m' ≡ (puts s residual plane m).memory
-
--- past the tests of an ask, which the walk does not change
-pub record Walks (s : Session) (d : PredictionData) (a : Answer) (references records cells : List ℤ) (r : AskAnswer) (cells' : List ℤ) : Type 0 where
-  pub answers : said_asked r ≡ (walks_from s d a references records cells).says
-  pub session_is : session_asked r ≡ (walks_from s d a references records cells).session
-  pub cells_are : cells' ≡ (walks_from s d a references records cells).cells
-
 -- ---- determinacy
 
-abbrev unsaid_opened : Outcome Session → OpenAnswer
-unsaid_opened (gives s) = opened.Is s
-unsaid_opened (refuses n ds) = opened.Refused (read_back n ds)
+module _ (width : ℕ) (h : WeightedHeader) (weights : Bool) (mask : ℕ) (channel stream : ℤ) (cells : List ℤ) (m : List ℕ) where
+  abbrev opening : Opening
+  opening = opens width h weights mask channel stream cells m
 
-opened_again : (r : OpenAnswer) → unsaid_opened (said_opened r) ≡ r
-opened_again (opened.Is s) = refl
-opened_again (opened.Refused refusal) = ap opened.Refused (reads_back refusal)
+  pub opens_determined : {r t : Result Session Refusal} {a b : List ℤ} {x y : List ℕ}
+      → said r ≡ opening.says → a ≡ opening.cells → x ≡ opening.memory → said t ≡ opening.says → b ≡ opening.cells → y ≡ opening.memory
+      → (r ≡ t) × (a ≡ b) × (x ≡ y)
+  opens_determined {r} {t} p p₁ p₂ q q₁ q₂ = (one_result r t p q, one_value p₁ q₁, one_value p₂ q₂)
 
-pub opens_determined : {width : ℕ} {h : WeightedHeader} {weights : Bool} {mask : ℕ} {channel stream : ℤ} {cells : List ℤ} {m : List ℕ}
-    {r t : OpenAnswer} {a b : List ℤ} {x y : List ℕ}
-    → Opens width h weights mask channel stream cells m r a x → Opens width h weights mask channel stream cells m t b y → (r ≡ t) × (a ≡ b) × (x ≡ y)
-opens_determined {r = r} {t = t} p q =
-    (one_answer said_opened unsaid_opened opened_again r t p.answers q.answers, one_value p.cells_are q.cells_are, one_value p.memory_is q.memory_is)
+module _ (s : Session) (plane references records cells : List ℤ) (m : List ℕ) where
+  abbrev asking : Asking
+  asking = asks s plane references records cells m
 
-abbrev unsaid_asked : Outcome ℕ → Session → AskAnswer
-unsaid_asked (gives context) s = asked.Is (record { session = s; context = context })
-unsaid_asked (refuses n ds) s = asked.Refused (record { session = s; refusal = read_back n ds })
+  pub asks_determined : {r t : Result ℕ Refusal} {u v : Session} {a b : List ℤ}
+      → said r ≡ asking.says → u ≡ asking.session → a ≡ asking.cells → said t ≡ asking.says → v ≡ asking.session → b ≡ asking.cells
+      → (r ≡ t) × (u ≡ v) × (a ≡ b)
+  asks_determined {r} {t} p p₁ p₂ q q₁ q₂ = (one_result r t p q, one_value p₁ q₁, one_value p₂ q₂)
 
-asked_again : (r : AskAnswer) → unsaid_asked (said_asked r) (session_asked r) ≡ r
-asked_again (asked.Is w) = refl
-asked_again (asked.Refused k) = ap (λ (x : _). asked.Refused (record { session = k.session; refusal = x })) (reads_back k.refusal)
+module _ (s : Session) (residual : ℤ) (plane : List ℤ) (m : List ℕ) where
+  abbrev putting : Putting
+  putting = puts s residual plane m
 
-pub asks_determined : {s : Session} {plane references records cells : List ℤ} {m : List ℕ} {r t : AskAnswer} {a b : List ℤ}
-    → Asks s plane references records cells m r a → Asks s plane references records cells m t b → (r ≡ t) × (a ≡ b)
-asks_determined {r = r} {t = t} p q = (
-  sym (asked_again r) ∙ ap₂ unsaid_asked (one_value p.answers q.answers) (one_value p.session_is q.session_is) ∙ asked_again t,
-  one_value p.cells_are q.cells_are,
-)
-
-abbrev unsaid_put : Outcome Unit → Session → PutAnswer
-unsaid_put (gives done) s = put.Done s
-unsaid_put (refuses n ds) s = put.Refused (record { session = s; refusal = read_back n ds })
-
-put_again : (r : PutAnswer) → unsaid_put (said_put r) (session_put r) ≡ r
-put_again (put.Done s) = refl
-put_again (put.Refused k) = ap (λ (x : _). put.Refused (record { session = k.session; refusal = x })) (reads_back k.refusal)
-
-pub puts_determined : {s : Session} {residual : ℤ} {plane : List ℤ} {m : List ℕ} {r t : PutAnswer} {a b : List ℤ} {x y : List ℕ}
-    → Puts s residual plane m r a x → Puts s residual plane m t b y → (r ≡ t) × (a ≡ b) × (x ≡ y)
-puts_determined {r = r} {t = t} p q = (
-  sym (put_again r) ∙ ap₂ unsaid_put (one_value p.answers q.answers) (one_value p.session_is q.session_is) ∙ put_again t,
-  one_value p.plane_is q.plane_is,
-  one_value p.memory_is q.memory_is,
-)
+  pub puts_determined : {r t : Result Unit Refusal} {u v : Session} {a b : List ℤ} {x y : List ℕ}
+      → said r ≡ putting.says → u ≡ putting.session → a ≡ putting.plane → x ≡ putting.memory
+      → said t ≡ putting.says → v ≡ putting.session → b ≡ putting.plane → y ≡ putting.memory
+      → (r ≡ t) × (u ≡ v) × (a ≡ b) × (x ≡ y)
+  puts_determined {r} {t} p p₁ p₂ p₃ q q₁ q₂ q₃ = (one_result r t p q, one_value p₁ q₁, one_value p₂ q₂, one_value p₃ q₃)

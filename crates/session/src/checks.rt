@@ -1,6 +1,9 @@
 // The tests before a call of a session goes on, each in the order of the paper.
 ghost use Rattle.std.specs.Prelude.{◌≡◌, ◌≤◌, length};
 ghost use Rattle.flat.specs.Records.{counted};
+ghost use Rattle.refusal.specs.Paper.{gives, said};
+ghost use Rattle.weighted.specs.Memory.{needed};
+ghost use Rattle.weighted.specs.State.{test};
 ghost use Rattle.session.specs.Session.{
   is_due,
   is_lent,
@@ -8,8 +11,6 @@ ghost use Rattle.session.specs.Session.{
   may_ask,
   may_open,
   may_put,
-  memory_refused,
-  said_check,
   some_records,
 };
 
@@ -18,35 +19,20 @@ use blend::WeightedHeader;
 use cells::cells_needed;
 use colour::rows::has_row;
 use flat::records::count_records;
-use nodes::Counted;
 use refusal::Refusal;
 
-#[derive(Clone, Copy)]
-pub enum Check {
-    Passed,
-    Refused(Refusal),
-}
-
 // Whether the memory lent suffices for this width; with weights off none is needed.
-fn is_lent(weights: bool, width: usize, lent: usize) -> bool
+fn check_memory(weights: bool, width: usize, lent: usize) -> Result<(), Refusal>
     requires { width ≤ 65536 }
-    ensures { result ≡ is_lent weights width lent }
+    ensures { said result ≡ test (is_lent weights width lent) 8 (needed width) (gives tt) }
 {
-    if weights {
-        10 * (width + 2) <= lent
-    } else {
-        true
+    let needed = 10 * (width + 2);
+    if weights && lent < needed {
+        return Err(Refusal::TooSmall {
+            needed: needed as u32,
+        });
     }
-}
-
-// The refusal of memory that does not suffice.
-fn memory_refused(width: usize) -> Check
-    requires { width ≤ 65536 }
-    ensures { said_check result ≡ memory_refused width }
-{
-    Check::Refused(Refusal::TooSmall {
-        needed: (10 * (width + 2)) as u32,
-    })
+    Ok(())
 }
 
 // Whether a session may open, in the order of the paper: header, width, memory, cells.
@@ -56,145 +42,92 @@ pub fn check_open(
     weights: bool,
     cells: usize,
     lent: usize,
-) -> Check
-    ensures { said_check result ≡ may_open header width weights cells lent }
+) -> Result<(), Refusal>
+    ensures { said result ≡ may_open header width weights cells lent }
 {
     if !header.in_range() {
-        return Check::Refused(Refusal::HeaderRange);
+        return Err(Refusal::HeaderRange);
     }
-    if width < 1 {
-        return Check::Refused(Refusal::WrongSize);
+    if width < 1 || 65536 < width {
+        return Err(Refusal::WrongSize);
     }
-    if 65536 < width {
-        return Check::Refused(Refusal::WrongSize);
-    }
-    if !is_lent(weights, width, lent) {
-        return memory_refused(width);
-    }
+    check_memory(weights, width, lent)?;
     if cells < 16 {
-        return Check::Refused(Refusal::TooFewCells { needed: 16 });
+        return Err(Refusal::TooFewCells { needed: 16 });
     }
-    Check::Passed
+    Ok(())
 }
 
 // Whether there are records: their count, then that there are some.
-fn check_records(records: &[i32]) -> Check
-    ensures { said_check result ≡ some_records (counted records.now) }
+fn check_records(records: &[i32]) -> Result<(), Refusal>
+    ensures { said result ≡ some_records (counted records.now) }
 {
-    let counted = count_records(records);
-    match counted {
-        Counted::Refused(refusal) => Check::Refused(refusal),
-        Counted::Nodes(count) => {
-            if count == 0 {
-                return Check::Refused(Refusal::EmptyList);
-            }
-            Check::Passed
+    if count_records(records)? == 0 {
+        return Err(Refusal::EmptyList);
+    }
+    Ok(())
+}
+
+impl Session {
+    // Whether the next or pending pixel lies in a plane of this length.
+    fn is_pixel(&self, size: usize) -> bool
+        ensures { result ≡ is_pixel self.now size }
+    {
+        let state = &self.weighted;
+        has_row(size, state.width, state.y) && state.x < state.width
+    }
+
+    // Whether the arguments of an ask are sound, in the order of the paper: header, place, turn, records, memory, cells.
+    pub(crate) fn check_ask(
+        &self,
+        size: usize,
+        references: &[i32],
+        records: &[i32],
+        cells: usize,
+        lent: usize,
+    ) -> Result<(), Refusal>
+        ensures { said result ≡ may_ask self.now size (length references.now) records.now cells lent }
+    {
+        let needed = cells_needed(self.mask, references);
+        if !self.weighted.header.in_range() {
+            return Err(Refusal::HeaderRange);
         }
-    }
-}
-
-// Whether the next or pending pixel lies in a plane of this length.
-fn is_pixel(session: Session, size: usize) -> bool
-    ensures { result ≡ is_pixel session size }
-{
-    let weighted = session.weighted;
-    let width = weighted.width;
-    let x = weighted.x;
-    if has_row(size, width, weighted.y) {
-        x < width
-    } else {
-        false
-    }
-}
-
-// Whether the arguments of an ask are sound, in the order of the paper: header, place, turn, records, memory, cells.
-pub fn check_ask(
-    session: Session,
-    size: usize,
-    references: &[i32],
-    records: &[i32],
-    cells: usize,
-    lent: usize,
-) -> Check
-    ensures { said_check result ≡ may_ask session size (length references.now) records.now cells lent }
-{
-    let weighted = session.weighted;
-    let width = weighted.width;
-    let asked = weighted.asked;
-    let live = session.live;
-    let weights = session.weights;
-    let needed = cells_needed(session.mask, references);
-    let inside = is_pixel(session, size);
-    if !weighted.header.in_range() {
-        return Check::Refused(Refusal::HeaderRange);
-    }
-    if !inside {
-        return Check::Refused(Refusal::WrongSize);
-    }
-    if 4294967295 < needed {
-        return Check::Refused(Refusal::WrongSize);
-    }
-    if !live {
-        return Check::Refused(Refusal::OutOfTurn);
-    }
-    if asked {
-        return Check::Refused(Refusal::OutOfTurn);
-    }
-    let some = check_records(records);
-    match some {
-        Check::Refused(refusal) => Check::Refused(refusal),
-        Check::Passed => {
-            if !is_lent(weights, width, lent) {
-                return memory_refused(width);
-            }
-            if cells < needed {
-                return Check::Refused(Refusal::TooFewCells {
-                    needed: needed as u32,
-                });
-            }
-            Check::Passed
+        if !self.is_pixel(size) || 4294967295 < needed {
+            return Err(Refusal::WrongSize);
         }
+        if !self.live || self.weighted.asked {
+            return Err(Refusal::OutOfTurn);
+        }
+        check_records(records)?;
+        check_memory(self.weights, self.weighted.width, lent)?;
+        if cells < needed {
+            return Err(Refusal::TooFewCells {
+                needed: needed as u32,
+            });
+        }
+        Ok(())
     }
-}
 
-// Whether the session waits for a put. One with what no ask can have found does not.
-fn is_due(session: Session) -> bool
-    ensures { result ≡ is_due session }
-{
-    let weighted = session.weighted;
-    let asked = weighted.asked;
-    let found = weighted.found;
-    let live = session.live;
-    let weights = session.weights;
-    if !live {
-        return false;
+    // Whether the session waits for a put. One with what no ask can have found does not.
+    fn is_due(&self) -> bool
+        ensures { result ≡ is_due self.now }
+    {
+        self.live && self.weighted.asked && (!self.weights || self.weighted.found.possible())
     }
-    if !asked {
-        return false;
-    }
-    if weights { found.possible() } else { true }
-}
 
-// Whether the arguments of a put are sound, in the order of the paper: header, place, turn, memory.
-pub fn check_put(session: Session, size: usize, lent: usize) -> Check
-    ensures { said_check result ≡ may_put session size lent }
-{
-    let weighted = session.weighted;
-    let width = weighted.width;
-    let weights = session.weights;
-    let inside = is_pixel(session, size);
-    let due = is_due(session);
-    if !weighted.header.in_range() {
-        return Check::Refused(Refusal::HeaderRange);
+    // Whether the arguments of a put are sound, in the order of the paper: header, place, turn, memory.
+    pub(crate) fn check_put(&self, size: usize, lent: usize) -> Result<(), Refusal>
+        ensures { said result ≡ may_put self.now size lent }
+    {
+        if !self.weighted.header.in_range() {
+            return Err(Refusal::HeaderRange);
+        }
+        if !self.is_pixel(size) {
+            return Err(Refusal::WrongSize);
+        }
+        if !self.is_due() {
+            return Err(Refusal::OutOfTurn);
+        }
+        check_memory(self.weights, self.weighted.width, lent)
     }
-    if !inside {
-        return Check::Refused(Refusal::WrongSize);
-    }
-    if !due {
-        return Check::Refused(Refusal::OutOfTurn);
-    }
-    if !is_lent(weights, width, lent) {
-        return memory_refused(width);
-    }
-    Check::Passed
 }

@@ -1,35 +1,24 @@
-// Module 10: a channel, pixel after pixel. A session is a value that keeps its place; ask and put alternate in raster order.
+// Module 10: a channel, pixel after pixel. A session keeps its place; ask and put alternate in raster order.
 #![tactic(auto)]
 
 ghost use Rattle.std.specs.Prelude.{true, ◌≡◌, ◌+◌, ◌-◌, ◌≤◌, pos, ◌+ℤ◌, ◌*ℤ◌, length, take, drop};
 ghost use Rattle.cells.specs.Cells.{outcome};
 ghost use Rattle.colour.specs.Rows.{row_of};
+ghost use Rattle.flat.specs.FlatWalk.{flat_of};
 ghost use Rattle.integer.specs.Word.{wrap};
-ghost use Rattle.predict.specs.Neighbours.{neighbours, said};
-ghost use Rattle.refusal.specs.Paper.{gives};
-ghost use Rattle.session.specs.Session.{
-  Asks,
-  Opens,
-  Puts,
-  Walks,
-  closed,
-  column,
-  is_pixel,
-  line,
-  passed,
-  waiting,
-  width,
-};
+ghost use Rattle.predict.specs.Neighbours.{neighbours};
+ghost use Rattle.refusal.specs.Paper.{gives, said};
+ghost use Rattle.session.specs.Session.{asks, column, is_pixel, line, opens, pixel_cells, puts, width};
 
-use blend::WeightedHeader;
-use cells::{Filled, compute_properties, start_cells};
-use checks::{Check, check_ask, check_open, check_put};
+use blend::{Prediction, WeightedHeader};
+use cells::{compute_properties, start_cells};
+use checks::check_open;
 use flat::predict_flat;
 use integer::{from_bits, low_word, to_bits, wrapping_add};
-use predict::neighbours::{Neighbourhood, PredictionData, get_rows};
+use predict::neighbours::{PredictionData, get_rows};
 use refusal::Refusal;
-use walk::{PredictionResult, Walked};
-use weighted::state::{Answer, Asked, Opened, Put, WeightedState};
+use walk::PredictionResult;
+use weighted::state::WeightedState;
 
 mod checks;
 mod weights;
@@ -37,7 +26,7 @@ mod weights;
 // The weighted state has the place of the next or pending pixel, also with weights off. A session lives until a walk is refused. Guess
 // and multiplier are the pending pixel's. The two flags stand together for speed: LLVM copies a gap of three or seven bytes after a flag
 // through memory, at every pixel.
-#[derive(Clone, Copy)]
+#[derive(Clone, Copy, Debug, PartialEq, Eq)]
 pub struct Session {
     pub weighted: WeightedState,
     pub weights: bool,
@@ -45,38 +34,6 @@ pub struct Session {
     pub mask: u32,
     pub guess: i64,
     pub multiplier: u32,
-}
-
-// A session that waits for the residual that was coded in this context.
-#[derive(Clone, Copy)]
-pub struct Waiting {
-    pub session: Session,
-    pub context: u32,
-}
-
-// A refusal, and the session as it was, or closed.
-#[derive(Clone, Copy)]
-pub struct Kept {
-    pub session: Session,
-    pub refusal: Refusal,
-}
-
-#[derive(Clone, Copy)]
-pub enum OpenAnswer {
-    Is(Session),
-    Refused(Refusal),
-}
-
-#[derive(Clone, Copy)]
-pub enum AskAnswer {
-    Is(Waiting),
-    Refused(Kept),
-}
-
-#[derive(Clone, Copy)]
-pub enum PutAnswer {
-    Done(Session),
-    Refused(Kept),
 }
 
 // The low 32 bits of guess + residual * multiplier, which may leave 64 bits.
@@ -95,13 +52,6 @@ fn row_from(plane: &[i32], start: usize, width: usize) -> &[i32]
     &plane[start..start + width]
 }
 
-// Where the row above the one from this word begins; the first stands for those above it.
-fn start_above(start: usize, width: usize) -> usize
-    ensures { result ≡ start - width }
-{
-    if width <= start { start - width } else { 0 }
-}
-
 impl Session {
     // A session before a channel's first pixel: cells 0 and 1 are the two numbers, the others and the memory are cleared.
     pub fn open(
@@ -113,219 +63,117 @@ impl Session {
         stream: i32,
         cells: &mut [i32],
         memory: &mut [u32],
-    ) -> OpenAnswer
-        ensures { Opens width header weights mask «channel» «stream» cells.old memory.old result cells.new memory.new }
+    ) -> Result<Session, Refusal>
+        ensures answers { said result ≡ (opens width header weights mask «channel» «stream» cells.old memory.old).says }
+        ensures cells_are { cells.new ≡ (opens width header weights mask «channel» «stream» cells.old memory.old).cells }
+        ensures memory_is { memory.new ≡ (opens width header weights mask «channel» «stream» cells.old memory.old).memory }
     {
-        let checked = check_open(header, width, weights, cells.len(), memory.len());
-        match checked {
-            Check::Refused(refusal) => OpenAnswer::Refused(refusal),
-            Check::Passed => {
-                let started = weights::start(header, width, weights, memory);
-                match started {
-                    Opened::Refused(refusal) => OpenAnswer::Refused(refusal),
-                    Opened::Is(weighted) => {
-                        start_cells(channel, stream, cells);
-                        OpenAnswer::Is(Session {
-                            weighted,
-                            weights,
-                            mask,
-                            live: true,
-                            guess: 0,
-                            multiplier: 0,
-                        })
-                    }
-                }
-            }
-        }
+        check_open(header, width, weights, cells.len(), memory.len())?;
+        let weighted = weights::start(header, width, weights, memory)?;
+        start_cells(channel, stream, cells)?;
+        Ok(Session {
+            weighted,
+            weights,
+            mask,
+            live: true,
+            guess: 0,
+            multiplier: 0,
+        })
     }
 
     // The neighbours of the pixel at the session's place, from the rows as parts of the plane. Rows above the first are not looked at.
-    fn neighbours(self, plane: &[i32]) -> Neighbourhood
-        requires { is_pixel self (length plane.now) ≡ true }
-        ensures { said result ≡ neighbours (row_of plane.now (width self) (line self)) (row_of plane.now (width self) (line self - 1)) (row_of plane.now (width self) (line self - 2)) (column self) (line self) }
+    fn neighbours(&self, plane: &[i32]) -> Result<PredictionData, Refusal>
+        requires { is_pixel self.now (length plane.now) ≡ true }
+        ensures { said result ≡ neighbours (row_of plane.now (width self.now) (line self.now)) (row_of plane.now (width self.now) (line self.now - 1)) (row_of plane.now (width self.now) (line self.now - 2)) (column self.now) (line self.now) }
     {
-        let weighted = self.weighted;
-        let width = weighted.width;
-        let x = weighted.x;
-        let y = weighted.y;
+        let width = self.weighted.width;
+        let y = self.weighted.y;
         let start = y * width;
-        let one_up = start_above(start, width);
-        let two_up = start_above(one_up, width);
+        // the first row stands for those above it
+        let one_up = start.saturating_sub(width);
+        let two_up = one_up.saturating_sub(width);
         get_rows(
             row_from(plane, start, width),
             row_from(plane, one_up, width),
             row_from(plane, two_up, width),
-            x,
+            self.weighted.x,
             y,
         )
     }
 
-    // The session that waits for the put.
-    fn waiting(self, answer: Answer, res: PredictionResult) -> Session
-        ensures { result ≡ waiting self answer res }
-    {
-        let weighted = answer.state;
-        Session {
-            weighted,
-            weights: self.weights,
-            mask: self.mask,
-            live: true,
-            guess: res.guess,
-            multiplier: res.multiplier,
-        }
-    }
-
-    fn closed(self) -> Session
-        ensures { result ≡ closed self }
-    {
-        let weighted = self.weighted;
-        Session {
-            weighted,
-            weights: self.weights,
-            mask: self.mask,
-            live: false,
-            guess: self.guess,
-            multiplier: self.multiplier,
-        }
-    }
-
     // The cells of the pixel, and the walk with them.
     fn walk(
-        self,
+        &self,
         data: PredictionData,
-        answer: Answer,
+        prediction: Prediction,
         references: &[i32],
         records: &[i32],
         cells: &mut [i32],
-    ) -> AskAnswer
-        requires { outcome self.mask (column self) (line self) (length references.now) (length cells.old) ≡ gives tt }
-        ensures { Walks self «data» answer references.now records.now cells.old result cells.new }
+    ) -> Result<PredictionResult, Refusal>
+        requires { outcome self.now.mask (column self.now) (line self.now) (length references.now) (length cells.old) ≡ gives tt }
+        ensures cells_are { cells.new ≡ pixel_cells self.now «data» prediction.property references.now cells.old }
+        ensures answers { said result ≡ flat_of records.now cells.new «data» prediction.guess }
     {
-        let weighted = self.weighted;
-        let x = weighted.x;
-        let y = weighted.y;
-        let property = answer.property;
-        let guess = answer.guess;
-        let filled = compute_properties(self.mask, x, y, data, property, references, cells);
-        match filled {
-            Filled::Refused(refusal) => AskAnswer::Refused(Kept {
-                session: self,
-                refusal,
-            }),
-            Filled::Done => {
-                let walked = predict_flat(records, cells, data, guess);
-                match walked {
-                    Walked::Refused(refusal) => AskAnswer::Refused(Kept {
-                        session: self.closed(),
-                        refusal,
-                    }),
-                    Walked::Is(result) => AskAnswer::Is(Waiting {
-                        session: self.waiting(answer, result),
-                        context: result.context,
-                    }),
-                }
-            }
-        }
+        compute_properties(
+            self.mask,
+            self.weighted.x,
+            self.weighted.y,
+            data,
+            prediction.property,
+            references,
+            cells,
+        )?;
+        predict_flat(records, cells, data, prediction.guess)
     }
 
     // The context of the pixel at the session's place, whose row is part of the plane. A refusal of the arguments changes nothing; one of
     // the walk leaves the cells filled and the session closed.
     pub fn ask(
-        self,
+        &mut self,
         plane: &[i32],
         references: &[i32],
         records: &[i32],
         cells: &mut [i32],
         memory: &[u32],
-    ) -> AskAnswer
-        ensures { Asks self plane.now references.now records.now cells.old memory.now result cells.new }
+    ) -> Result<u32, Refusal>
+        ensures answers { said result ≡ (asks self.old plane.now references.now records.now cells.old memory.now).says }
+        ensures session_is { self.new ≡ (asks self.old plane.now references.now records.now cells.old memory.now).session }
+        ensures cells_are { cells.new ≡ (asks self.old plane.now references.now records.now cells.old memory.now).cells }
     {
-        let checked = check_ask(
-            self,
-            plane.len(),
-            references,
-            records,
-            cells.len(),
-            memory.len(),
-        );
-        match checked {
-            Check::Refused(refusal) => AskAnswer::Refused(Kept {
-                session: self,
-                refusal,
-            }),
-            Check::Passed => {
-                let fetched = self.neighbours(plane);
-                match fetched {
-                    Neighbourhood::Refused(refusal) => AskAnswer::Refused(Kept {
-                        session: self,
-                        refusal,
-                    }),
-                    Neighbourhood::Is(data) => {
-                        let asked = weights::ask(self.weighted, self.weights, memory, data);
-                        match asked {
-                            Asked::Refused(kept) => {
-                                let refusal = kept.refusal;
-                                AskAnswer::Refused(Kept {
-                                    session: self,
-                                    refusal,
-                                })
-                            }
-                            Asked::Is(answer) => {
-                                self.walk(data, answer, references, records, cells)
-                            }
-                        }
-                    }
-                }
+        self.check_ask(plane.len(), references, records, cells.len(), memory.len())?;
+        let data = self.neighbours(plane)?;
+        let prediction = weights::predict(&self.weighted, self.weights, memory, data)?;
+        match self.walk(data, prediction, references, records, cells) {
+            Ok(result) => {
+                self.weighted.answer(prediction);
+                self.guess = result.guess;
+                self.multiplier = result.multiplier;
+                Ok(result.context)
             }
-        }
-    }
-
-    // The session over a state one pixel on.
-    fn passed(self, weighted: WeightedState) -> Session
-        ensures { result ≡ passed self weighted }
-    {
-        Session {
-            weighted,
-            weights: self.weights,
-            mask: self.mask,
-            live: self.live,
-            guess: self.guess,
-            multiplier: self.multiplier,
+            Err(refusal) => {
+                self.live = false;
+                Err(refusal)
+            }
         }
     }
 
     // The pixel that was asked for becomes guess + residual * multiplier, in its low 32 bits.
-    pub fn put(self, residual: i32, plane: &mut [i32], memory: &mut [u32]) -> PutAnswer
-        ensures { Puts self residual plane.old memory.old result plane.new memory.new }
+    pub fn put(
+        &mut self,
+        residual: i32,
+        plane: &mut [i32],
+        memory: &mut [u32],
+    ) -> Result<(), Refusal>
+        ensures answers { said result ≡ (puts self.old residual plane.old memory.old).says }
+        ensures session_is { self.new ≡ (puts self.old residual plane.old memory.old).session }
+        ensures plane_is { plane.new ≡ (puts self.old residual plane.old memory.old).plane }
+        ensures memory_is { memory.new ≡ (puts self.old residual plane.old memory.old).memory }
     {
-        let weighted = self.weighted;
-        let width = weighted.width;
-        let x = weighted.x;
-        let y = weighted.y;
-        let checked = check_put(self, plane.len(), memory.len());
-        match checked {
-            Check::Refused(refusal) => PutAnswer::Refused(Kept {
-                session: self,
-                refusal,
-            }),
-            Check::Passed => {
-                let value = unpack(self.guess, residual, self.multiplier);
-                let learnt = weights::put(weighted, self.weights, memory, value);
-                match learnt {
-                    Put::Refused(kept) => {
-                        let refusal = kept.refusal;
-                        PutAnswer::Refused(Kept {
-                            session: self,
-                            refusal,
-                        })
-                    }
-                    Put::Done(next) => {
-                        let at = y * width + x;
-                        plane[at] = value;
-                        PutAnswer::Done(self.passed(next))
-                    }
-                }
-            }
-        }
+        self.check_put(plane.len(), memory.len())?;
+        let at = self.weighted.y * self.weighted.width + self.weighted.x;
+        let value = unpack(self.guess, residual, self.multiplier);
+        weights::put(&mut self.weighted, self.weights, memory, value)?;
+        plane[at] = value;
+        Ok(())
     }
 }

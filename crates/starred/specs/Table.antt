@@ -21,8 +21,7 @@ use Rattle.predict.specs.declared.predictors.Predictor.{Predictor}
 use Rattle.predict.specs.declared.predictors.Predictor.TheVariants.{Select, AverageWestAndNorth, Gradient}
 use Rattle.validation.specs.Shape.{splits_before, first_fault}
 use Rattle.weighted.specs.Memory.{errors_read, sums_read, error_at, stored, added}
-use Rattle.weighted.specs.State.{asks, allowed}
-use Rattle.weighted.specs.declared.state.Answer.{Answer}
+use Rattle.weighted.specs.State.{Answered, asks, allowed}
 
 pub data Case : Type 0 where
   says : List ℤ → List ℤ → Case
@@ -59,7 +58,7 @@ abbrev all : ℤ → PredictionData
 all v = record { left = v; top = v; toptop = v; topleft = v; topright = v; leftleft = v; toprightright = v }
 
 -- guess and property of the ask at pixel k, the default header, width 4: the neighbours are all 0, and 10 from the second pixel on; 10 is put
-abbrev answer : Outcome Answer → List ℤ
+abbrev answer : Outcome Answered → List ℤ
 answer (gives a) = a.guess ∷ a.property ∷ []
 answer (refuses number details) = pos number ∷ details
 

@@ -1,90 +1,127 @@
 -- `pixels` meets its contract. The invariant: the row from here on ends as the whole row does.
-use lib.IntN.{pos}
-use lib.ListN.{length, length-set, get_or, take, drop}
+use lib.IntN.{ℤ, pos}
+use lib.ListN.{length, length-set, get_or, set, take, drop}
+use mathlib.Core.List.{List}
 use mathlib.Core.Path.{◌≡◌, sym, ap, ◌∙◌}
 use mir.Syntax.{w32}
+use mir.Val.{to_z, of_z}
 use native.Mathlib.Omega.{arith}
-use Prim.Native.Nat.{ℕ, ◌+◌, ◌-◌, ◌*◌, ◌≤◌, ◌<◌}
+use Prim.Native.Nat.{ℕ, ◌+◌, ◌-◌, ◌*◌}
 use Rattle.integer.proofs.Bounded.{held}
-use Rattle.session.specs.Session.{Asks, Puts}
-use Rattle.row.specs.Row.{Row, part_of, pixels_from}
+use Rattle.refusal.specs.Paper.{number_of, details_of}
+use Rattle.row.specs.Row.{Row, row_of, all, halted, answer_of, session_of, part_of, pixels_from}
 use Rattle.row.proofs.Steps.{ask_ends, put_ends, goes_on}
 use Rattle.row.proofs.pixels.Goals as goal
 
--- the part of a pixel lies in the references
-part_room : (k n each size : ℕ) → k < n → n * each ≤ size → k * each + each ≤ size
-part_room k n each size less room =
-    let whole : (n - (k + 1)) + (k + 1) ≡ n = omega (arith, less) in
-    let spread : (n - (k + 1)) * each + (k + 1) * each ≡ ((n - (k + 1)) + (k + 1)) * each = omega arith in
-    omega (arith, spread, ap (λ (m : ℕ). m * each) whole, room)
+-- a pixel's part of the reference cells, as the call slices it
+part : (residuals references records : List ℤ) (each k : ℕ)
+    → take (k * each + each - k * each) (drop (k * each) references) ≡ part_of residuals references records each k
+part residuals references records each k =
+    let size : k * each + each - k * each ≡ each = omega arith in
+    ap (λ (n : ℕ). take n (drop (k * each) references)) size
 
-pub returns-in-Refused-put : goal.returns-in-Refused-put
-returns-in-Refused-put c =
-    let n : ℕ = length c.args.residuals.now in
-    let below : c.loop-k.k < n = c.loop-k-test.true in
-    -- the row ends as this turn does
-    let whole : (end : Row) → pixels_from c.args.residuals.now c.args.references.now c.args.records.now c.args.each (n - c.loop-k.k) c.loop-k.k c.loop-k.session c.loop-k.plane c.loop-k.contexts c.loop-k.cells c.loop-k.memory ≡ end → end ≡ pixels_from c.args.residuals.now c.args.references.now c.args.records.now c.args.each n 0 c.args.opened c.args.plane.now c.args.contexts.now c.args.cells.now c.args.memory.now = λ end. λ is. sym is ∙ c.loop-k.invariant.ends_alike in
-    let asks_it : let s = c.args in let l = c.loop-k in Asks l.session l.plane (part_of s.residuals.now s.references.now s.records.now s.each l.k) s.records.now l.cells l.memory c.ask-asked.result c.ask-asked.new.cells =
-    let s = c.args in
-    let l = c.loop-k in
-    let from = l.k * s.each in
-    let size : from + s.each - from ≡ s.each = omega arith in
-    let c : Asks l.session l.plane (take (from + s.each - from) (drop from s.references.now)) s.records.now l.cells l.memory c.ask-asked.result c.ask-asked.new.cells = c.ask-asked.ensures in
-    rw size at c in
-    -- the library's promise for it
-    let puts_it : let s = c.args in let l = c.loop-k in Puts c.in-Is.waiting.session (get_or s.residuals.now l.k (pos 0)) l.plane l.memory c.put-put.result c.put-put.new.plane c.put-put.new.memory = rw (held w32 (get_or c.args.residuals.now c.loop-k.k (pos 0)) c.put-arg-1.given) at c.put-put.ensures in
-    let s = c.args in
-    let l = c.loop-k in
-    let end = put_ends s.residuals.now s.references.now s.records.now s.each l.session l.plane l.contexts l.cells l.memory n l.k below asks_it c.in-Is.waiting c.in-Is.is puts_it c.in-Refused-put.kept c.in-Refused-put.is in
-    record { is = rw c.stopped.ensures (whole _ end) }
+-- ---- an ask is refused
 
-pub returns-in-Refused : goal.returns-in-Refused
-returns-in-Refused c =
-    let n : ℕ = length c.args.residuals.now in
-    let below : c.loop-k.k < n = c.loop-k-test.true in
-    -- the row ends as this turn does
-    let whole : (end : Row) → pixels_from c.args.residuals.now c.args.references.now c.args.records.now c.args.each (n - c.loop-k.k) c.loop-k.k c.loop-k.session c.loop-k.plane c.loop-k.contexts c.loop-k.cells c.loop-k.memory ≡ end → end ≡ pixels_from c.args.residuals.now c.args.references.now c.args.records.now c.args.each n 0 c.args.opened c.args.plane.now c.args.contexts.now c.args.cells.now c.args.memory.now = λ end. λ is. sym is ∙ c.loop-k.invariant.ends_alike in
-    let asks_it : let s = c.args in let l = c.loop-k in Asks l.session l.plane (part_of s.residuals.now s.references.now s.records.now s.each l.k) s.records.now l.cells l.memory c.ask-asked.result c.ask-asked.new.cells =
+asked : (c : goal.In-Err) → let s = c.args in let l = c.loop-k in let r = c.in-Err.refusal in
+    row_of (halted l.k (number_of r) (details_of r) c.ask.new.self) l.plane l.contexts c.ask.new.cells l.memory
+    ≡ pixels_from s.residuals.now s.references.now s.records.now s.each (length s.residuals.now) 0 s.session.now s.plane.now s.contexts.now s.cells.now s.memory.now
+asked c =
     let s = c.args in
     let l = c.loop-k in
-    let from = l.k * s.each in
-    let size : from + s.each - from ≡ s.each = omega arith in
-    let c : Asks l.session l.plane (take (from + s.each - from) (drop from s.references.now)) s.records.now l.cells l.memory c.ask-asked.result c.ask-asked.new.cells = c.ask-asked.ensures in
-    rw size at c in
+    sym (ask_ends s.residuals.now s.references.now s.records.now s.each l.session l.plane l.contexts l.cells l.memory (length s.residuals.now) l.k c.loop-k-test.true _
+    (part s.residuals.now s.references.now s.records.now s.each l.k) c.in-Err.ensures.session_is c.in-Err.ensures.cells_are c.in-Err.ensures.answers)
+    ∙ l.invariant.1
+
+pub returns-in-Err-clause-answers : goal.returns-in-Err-clause-answers
+returns-in-Err-clause-answers c = ap (λ (r : Row). answer_of r.ended) (asked c)
+
+pub returns-in-Err-clause-session_is : goal.returns-in-Err-clause-session_is
+returns-in-Err-clause-session_is c = ap (λ (r : Row). session_of r.ended) (asked c)
+
+pub returns-in-Err-clause-plane_is : goal.returns-in-Err-clause-plane_is
+returns-in-Err-clause-plane_is c = ap (λ (r : Row). r.plane) (asked c)
+
+pub returns-in-Err-clause-contexts_are : goal.returns-in-Err-clause-contexts_are
+returns-in-Err-clause-contexts_are c = ap (λ (r : Row). r.contexts) (asked c)
+
+pub returns-in-Err-clause-cells_are : goal.returns-in-Err-clause-cells_are
+returns-in-Err-clause-cells_are c = ap (λ (r : Row). r.cells) (asked c)
+
+pub returns-in-Err-clause-memory_is : goal.returns-in-Err-clause-memory_is
+returns-in-Err-clause-memory_is c = ap (λ (r : Row). r.memory) (asked c)
+
+-- ---- a put is
+
+put : (c : goal.In-Err-put) → let s = c.args in let l = c.loop-k in let r = c.in-Err-put.refusal in
+    row_of (halted l.k (number_of r) (details_of r) c.put.new.self) c.put.new.plane (set l.contexts l.k c.in-Ok.context) c.ask.new.cells c.put.new.memory
+    ≡ pixels_from s.residuals.now s.references.now s.records.now s.each (length s.residuals.now) 0 s.session.now s.plane.now s.contexts.now s.cells.now s.memory.now
+put c =
     let s = c.args in
     let l = c.loop-k in
-    let end = ask_ends s.residuals.now s.references.now s.records.now s.each l.session l.plane l.contexts l.cells l.memory n l.k below asks_it c.in-Refused.kept c.in-Refused.is in
-    record { is = rw c.stopped-in-Refused.ensures (whole _ end) }
+    let e = c.in-Err-put.ensures in
+    let v = get_or s.residuals.now l.k (pos 0) in
+    sym (put_ends s.residuals.now s.references.now s.records.now s.each l.session l.plane l.contexts l.cells l.memory (length s.residuals.now) l.k c.loop-k-test.true _
+    (part s.residuals.now s.references.now s.records.now s.each l.k) c.in-Ok.ensures.session_is c.in-Ok.ensures.cells_are c.in-Ok.ensures.answers
+    (to_z w32 (of_z w32 v)) (held w32 v (omega arith)) e.session_is e.plane_is e.memory_is e.answers)
+    ∙ l.invariant.1
+
+pub returns-in-Err-put-clause-answers : goal.returns-in-Err-put-clause-answers
+returns-in-Err-put-clause-answers c = ap (λ (r : Row). answer_of r.ended) (put c)
+
+pub returns-in-Err-put-clause-session_is : goal.returns-in-Err-put-clause-session_is
+returns-in-Err-put-clause-session_is c = ap (λ (r : Row). session_of r.ended) (put c)
+
+pub returns-in-Err-put-clause-plane_is : goal.returns-in-Err-put-clause-plane_is
+returns-in-Err-put-clause-plane_is c = ap (λ (r : Row). r.plane) (put c)
+
+pub returns-in-Err-put-clause-contexts_are : goal.returns-in-Err-put-clause-contexts_are
+returns-in-Err-put-clause-contexts_are c = ap (λ (r : Row). r.contexts) (put c)
+
+pub returns-in-Err-put-clause-cells_are : goal.returns-in-Err-put-clause-cells_are
+returns-in-Err-put-clause-cells_are c = ap (λ (r : Row). r.cells) (put c)
+
+pub returns-in-Err-put-clause-memory_is : goal.returns-in-Err-put-clause-memory_is
+returns-in-Err-put-clause-memory_is c = ap (λ (r : Row). r.memory) (put c)
+
+-- ---- neither is
 
 pub loop-k-preserved : goal.loop-k-preserved
 loop-k-preserved c =
-    let n : ℕ = length c.args.residuals.now in
-    let below : c.loop-k.k < n = c.loop-k-test.true in
-    -- the row ends as this turn does
-    let whole : (end : Row) → pixels_from c.args.residuals.now c.args.references.now c.args.records.now c.args.each (n - c.loop-k.k) c.loop-k.k c.loop-k.session c.loop-k.plane c.loop-k.contexts c.loop-k.cells c.loop-k.memory ≡ end → end ≡ pixels_from c.args.residuals.now c.args.references.now c.args.records.now c.args.each n 0 c.args.opened c.args.plane.now c.args.contexts.now c.args.cells.now c.args.memory.now = λ end. λ is. sym is ∙ c.loop-k.invariant.ends_alike in
-    let asks_it : let s = c.args in let l = c.loop-k in Asks l.session l.plane (part_of s.residuals.now s.references.now s.records.now s.each l.k) s.records.now l.cells l.memory c.ask-asked.result c.ask-asked.new.cells =
     let s = c.args in
     let l = c.loop-k in
-    let from = l.k * s.each in
-    let size : from + s.each - from ≡ s.each = omega arith in
-    let c : Asks l.session l.plane (take (from + s.each - from) (drop from s.references.now)) s.records.now l.cells l.memory c.ask-asked.result c.ask-asked.new.cells = c.ask-asked.ensures in
-    rw size at c in
-    -- the library's promise for it
-    let puts_it : let s = c.args in let l = c.loop-k in Puts c.in-Is.waiting.session (get_or s.residuals.now l.k (pos 0)) l.plane l.memory c.put-put.result c.put-put.new.plane c.put-put.new.memory = rw (held w32 (get_or c.args.residuals.now c.loop-k.k (pos 0)) c.put-arg-1.given) at c.put-put.ensures in
-    let s = c.args in
-    let l = c.loop-k in
-    let on = goes_on s.residuals.now s.references.now s.records.now s.each l.session l.plane l.contexts l.cells l.memory n l.k below asks_it c.in-Is.waiting c.in-Is.is puts_it c.in-Done.next c.in-Done.is in
-    record {
-      within = omega (arith, below);
-      plane_long = c.plane-1.given ∙ l.invariant.plane_long;
-      contexts_long = simp length-set l.invariant.contexts_long;
-      cells_long = c.cells-1.given ∙ l.invariant.cells_long;
-      memory_long = c.memory-1.given ∙ l.invariant.memory_long;
-      ends_alike = whole _ on;
-    }
+    let e = c.in_default.ensures in
+    let v = get_or s.residuals.now l.k (pos 0) in (
+      simp length-set l.invariant.0,
+      sym (goes_on s.residuals.now s.references.now s.records.now s.each l.session l.plane l.contexts l.cells l.memory (length s.residuals.now) l.k c.loop-k-test.true _
+          (part s.residuals.now s.references.now s.records.now s.each l.k) c.in-Ok.ensures.session_is c.in-Ok.ensures.cells_are c.in-Ok.ensures.answers
+          (to_z w32 (of_z w32 v)) (held w32 v (omega arith)) e.session_is e.plane_is e.memory_is e.answers)
+          ∙ l.invariant.1,
+    )
 
-pub returns : goal.returns
+-- ---- no pixel is left
+
+ended : (c : goal.After-loop-k) → let s = c.args in let l = c.loop-k in
+    row_of (all l.session) l.plane l.contexts l.cells l.memory
+    ≡ pixels_from s.residuals.now s.references.now s.records.now s.each (length s.residuals.now) 0 s.session.now s.plane.now s.contexts.now s.cells.now s.memory.now
 unfolding pixels_from
-returns c =
-    let all : length c.args.residuals.now - c.loop-k.k ≡ 0 = omega (arith, c.loop-k-test.false) in
-    record { is = rw all at c.loop-k.invariant.ends_alike }
+ended c =
+    let none : length c.args.residuals.now - c.loop-k.k ≡ 0 = omega (arith, c.loop-k-test.false) in
+    rw none at c.loop-k.invariant.1
+
+pub returns-clause-answers : goal.returns-clause-answers
+returns-clause-answers c = ap (λ (r : Row). answer_of r.ended) (ended c)
+
+pub returns-clause-session_is : goal.returns-clause-session_is
+returns-clause-session_is c = ap (λ (r : Row). session_of r.ended) (ended c)
+
+pub returns-clause-plane_is : goal.returns-clause-plane_is
+returns-clause-plane_is c = ap (λ (r : Row). r.plane) (ended c)
+
+pub returns-clause-contexts_are : goal.returns-clause-contexts_are
+returns-clause-contexts_are c = ap (λ (r : Row). r.contexts) (ended c)
+
+pub returns-clause-cells_are : goal.returns-clause-cells_are
+returns-clause-cells_are c = ap (λ (r : Row). r.cells) (ended c)
+
+pub returns-clause-memory_is : goal.returns-clause-memory_is
+returns-clause-memory_is c = ap (λ (r : Row). r.memory) (ended c)

@@ -31,12 +31,12 @@ up y k w = by (ltb y k) refl
 pub returns : goal.returns
 returns c =
     let plane : List ℤ = c.args.plane.now in
-    let y : ℕ = c.args.self.weighted.y in
-    let w : ℕ = c.args.self.weighted.width in
-    let inside : Pixel c.args.self (length c.args.plane.now) = pixel c.args.self (length c.args.plane.now) c.requires in
+    let y : ℕ = c.args.self.now.weighted.y in
+    let w : ℕ = c.args.self.now.weighted.width in
+    let inside : Pixel c.args.self.now (length c.args.plane.now) = pixel c.args.self.now (length c.args.plane.now) c.requires in
     let there : is_row (length plane) w y ≡ true = inside.there in
-    let one_up : c.start_above-one_up.result ≡ (y - 1) * w = omega (arith, c.start_above-one_up.ensures, up y 1 w) in
-    let two_up : c.start_above-two_up.result ≡ (y - 2) * w = omega (arith, c.start_above-two_up.ensures, c.start_above-one_up.ensures, up y 2 w) in
+    let one_up : c.saturating_sub-one_up.result ≡ (y - 1) * w = omega (arith, c.saturating_sub-one_up.ensures, up y 1 w) in
+    let two_up : c.saturating_sub-two_up.result ≡ (y - 2) * w = omega (arith, c.saturating_sub-two_up.ensures, c.saturating_sub-one_up.ensures, up y 2 w) in
     let from : ℕ → List ℤ = λ (n : ℕ). take w (drop n plane) in
     let row = c.row_from.ensures ∙ sym (own_words plane w y there) in
     let one = c.row_from-2.ensures ∙ ap from one_up ∙ sym (row_words plane w y 1 there) in
