@@ -6,7 +6,9 @@
 mod weights;
 mod words;
 
-fn main() {
-    words::run();
-    weights::run();
+use std::io;
+
+fn main(rt: HostRuntime) -> io::Result<()> {
+    words::run(&rt)?;
+    weights::run(&rt)
 }

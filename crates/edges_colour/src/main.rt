@@ -5,6 +5,8 @@
 
 mod planes;
 
-fn main() {
-    planes::run();
+use std::io;
+
+fn main(rt: HostRuntime) -> io::Result<()> {
+    planes::run(&rt)
 }

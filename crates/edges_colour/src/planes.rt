@@ -1,233 +1,232 @@
 // Module 9: a step of colour restore, with the planes before and after it, and the rows of a plane.
 ghost use Rattle.std.specs.Prelude.{◌≡◌, length};
 
-use colour::restore::Restored;
-use colour::rows::RowCheck;
+use refusal::Refusal;
+use std::io;
 
-fn planes(a: &[i32], b: &[i32], c: &[i32]) {
-    print::text(b" a=");
-    print::words(a);
-    print::text(b" b=");
-    print::words(b);
-    print::text(b" c=");
-    print::words(c);
+fn planes(rt: &impl Print, a: &[i32], b: &[i32], c: &[i32]) -> io::Result<()> {
+    print!(rt; " a=")?;
+    print::words(rt, a)?;
+    print!(rt; " b=")?;
+    print::words(rt, b)?;
+    print!(rt; " c=")?;
+    print::words(rt, c)
 }
 
-fn called(operation: u32, order: u32) {
-    print::text(b"do_rct_step");
-    print::named(b"operation", operation as u64);
-    print::named(b"order", order as u64);
-}
-
-fn restored(answer: Restored) {
+// An answer without a value.
+fn told(rt: &impl Print, answer: Result<(), Refusal>, done: &str) -> io::Result<()> {
     match answer {
-        Restored::Done => print::text(b": done;"),
-        Restored::Refused(refusal) => {
-            print::refusal(refusal);
-            print::text(b";");
-        }
+        Ok(()) => print!(rt; ": {done}"),
+        Err(refusal) => print::refusal(rt, refusal),
     }
 }
 
-fn after(answer: Restored, a: &[i32], b: &[i32], c: &[i32]) {
-    restored(answer);
-    planes(a, b, c);
-    print::text(b"\n");
-}
-
-fn step(a: &mut [i32], b: &mut [i32], c: &mut [i32], operation: u32, order: u32) {
-    called(operation, order);
-    planes(a, b, c);
-    let answer = colour::restore::do_rct_step(a, b, c, operation, order);
-    after(answer, a, b, c);
+fn step(
+    rt: &impl Print,
+    a: &mut [i32],
+    b: &mut [i32],
+    c: &mut [i32],
+    operation: u32,
+    order: u32,
+) -> io::Result<()> {
+    print!(rt; "do_rct_step operation={operation} order={order}")?;
+    planes(rt, a, b, c)?;
+    told(
+        rt,
+        colour::restore::do_rct_step(a, b, c, operation, order),
+        "done",
+    )?;
+    print!(rt; ";")?;
+    planes(rt, a, b, c)?;
+    println!(rt)
 }
 
 // Planes of one word.
-fn triple(a: i32, b: i32, c: i32, operation: u32, order: u32) {
+fn triple(rt: &impl Print, a: i32, b: i32, c: i32, operation: u32, order: u32) -> io::Result<()> {
     let mut first = [a];
     let mut second = [b];
     let mut third = [c];
-    step(&mut first, &mut second, &mut third, operation, order);
+    step(rt, &mut first, &mut second, &mut third, operation, order)
 }
 
 // Document 01's three: their shifts go down, not toward zero.
-fn starred() {
-    triple(100, 7, -3, 6, 0);
-    triple(5, 0, -8, 4, 0);
-    triple(5, 0, -8, 5, 0);
+fn starred(rt: &impl Print) -> io::Result<()> {
+    for (a, b, c, operation) in [(100, 7, -3, 6), (5, 0, -8, 4), (5, 0, -8, 5)] {
+        triple(rt, a, b, c, operation, 0)?;
+    }
+    Ok(())
 }
 
 // In the first a + c wraps before the shift.
-fn wraps() {
-    triple(2147483647, 0, 1, 4, 0);
-    triple(2147483647, -2147483648, 1, 3, 0);
-    triple(-2147483648, 2147483647, 2147483647, 6, 0);
+fn wraps(rt: &impl Print) -> io::Result<()> {
+    for (a, b, c, operation) in [
+        (2147483647, 0, 1, 4),
+        (2147483647, -2147483648, 1, 3),
+        (-2147483648, 2147483647, 2147483647, 6),
+    ] {
+        triple(rt, a, b, c, operation, 0)?;
+    }
+    Ok(())
 }
 
-fn operations() {
-    triple(10, -3, 7, 0, 0);
-    triple(10, -3, 7, 1, 0);
-    triple(10, -3, 7, 2, 0);
-    triple(10, -3, 7, 3, 0);
-    triple(10, -3, 7, 4, 0);
-    triple(10, -3, 7, 5, 0);
-    triple(10, -3, 7, 6, 0);
+fn operations(rt: &impl Print) -> io::Result<()> {
+    for operation in 0..7 {
+        triple(rt, 10, -3, 7, operation, 0)?;
+    }
+    Ok(())
 }
 
-fn orders() {
-    triple(1, 2, 3, 0, 0);
-    triple(1, 2, 3, 0, 1);
-    triple(1, 2, 3, 0, 2);
-    triple(1, 2, 3, 0, 3);
-    triple(1, 2, 3, 0, 4);
-    triple(1, 2, 3, 0, 5);
+fn orders(rt: &impl Print) -> io::Result<()> {
+    for order in 0..6 {
+        triple(rt, 1, 2, 3, 0, order)?;
+    }
+    Ok(())
 }
 
 // The operation first, then the order.
-fn two_triples() {
+fn two_triples(rt: &impl Print) -> io::Result<()> {
     let mut a = [100, 10];
     let mut b = [7, -3];
     let mut c = [-3, 7];
-    step(&mut a, &mut b, &mut c, 6, 2);
+    step(rt, &mut a, &mut b, &mut c, 6, 2)
 }
 
-fn no_triples(operation: u32, order: u32) {
+fn no_triples(rt: &impl Print, operation: u32, order: u32) -> io::Result<()> {
     let mut a: [i32; 0] = [];
     let mut b: [i32; 0] = [];
     let mut c: [i32; 0] = [];
-    step(&mut a, &mut b, &mut c, operation, order);
+    step(rt, &mut a, &mut b, &mut c, operation, order)
 }
 
-fn empties() {
-    no_triples(6, 0);
-    no_triples(6, 2);
-    no_triples(7, 2);
+fn empties(rt: &impl Print) -> io::Result<()> {
+    for (operation, order) in [(6, 0), (6, 2), (7, 2)] {
+        no_triples(rt, operation, order)?;
+    }
+    Ok(())
 }
 
-fn no_such_colours() {
-    triple(1, 2, 3, 7, 0);
-    triple(1, 2, 3, 0, 6);
-    triple(1, 2, 3, 4294967295, 5);
-    triple(1, 2, 3, 6, 4294967295);
+fn no_such_colours(rt: &impl Print) -> io::Result<()> {
+    for (operation, order) in [(7, 0), (0, 6), (4294967295, 5), (6, 4294967295)] {
+        triple(rt, 1, 2, 3, operation, order)?;
+    }
+    Ok(())
 }
 
 // A wrong number comes before a wrong length.
-fn unequal_and(operation: u32, order: u32) {
+fn unequal_and(rt: &impl Print, operation: u32, order: u32) -> io::Result<()> {
     let mut a = [1, 2];
     let mut b = [3];
     let mut c = [4, 5];
-    step(&mut a, &mut b, &mut c, operation, order);
+    step(rt, &mut a, &mut b, &mut c, operation, order)
 }
 
-fn third_longer() {
+fn third_longer(rt: &impl Print) -> io::Result<()> {
     let mut a = [1];
     let mut b = [3];
     let mut c = [4, 5];
-    step(&mut a, &mut b, &mut c, 6, 2);
+    step(rt, &mut a, &mut b, &mut c, 6, 2)
 }
 
-fn unequals() {
-    unequal_and(7, 6);
-    unequal_and(7, 5);
-    unequal_and(6, 6);
-    unequal_and(6, 5);
-    unequal_and(0, 0);
-    third_longer();
-}
-
-fn asked(name: &[u8], words: usize, width: usize, y: usize) {
-    print::text(name);
-    print::named(b"words", words as u64);
-    print::named(b"width", width as u64);
-    print::named(b"y", y as u64);
-}
-
-fn checked(answer: RowCheck) {
-    match answer {
-        RowCheck::There => print::text(b": there "),
-        RowCheck::Refused(refusal) => {
-            print::refusal(refusal);
-            print::text(b" ");
-        }
+fn unequals(rt: &impl Print) -> io::Result<()> {
+    for (operation, order) in [(7, 6), (7, 5), (6, 6), (6, 5), (0, 0)] {
+        unequal_and(rt, operation, order)?;
     }
+    third_longer(rt)
 }
 
-fn row(plane: &[i32], width: usize, y: usize) {
-    asked(b"row", plane.len(), width, y);
-    checked(colour::rows::row_refusal(plane, width, y));
-    print::words(colour::rows::row(plane, width, y));
-    print::text(b"\n");
+fn asked(rt: &impl Print, name: &str, words: usize, width: usize, y: usize) -> io::Result<()> {
+    print!(rt; "{name} words={words} width={width} y={y}")
+}
+
+fn checked(rt: &impl Print, answer: Result<(), Refusal>) -> io::Result<()> {
+    told(rt, answer, "there")?;
+    print!(rt; " ")
+}
+
+fn row(rt: &impl Print, plane: &[i32], width: usize, y: usize) -> io::Result<()> {
+    asked(rt, "row", plane.len(), width, y)?;
+    checked(rt, colour::rows::row_refusal(plane, width, y))?;
+    print::words(rt, colour::rows::row(plane, width, y))?;
+    println!(rt)
 }
 
 // Of six words: rows of three, the first and the last of one and of six.
-fn whole_rows(plane: &[i32]) {
-    row(plane, 3, 0);
-    row(plane, 3, 1);
-    row(plane, 3, 2);
-    row(plane, 1, 0);
-    row(plane, 1, 5);
-    row(plane, 1, 6);
-    row(plane, 6, 0);
-    row(plane, 6, 1);
+fn whole_rows(rt: &impl Print, plane: &[i32]) -> io::Result<()> {
+    for (width, y) in [
+        (3, 0),
+        (3, 1),
+        (3, 2),
+        (1, 0),
+        (1, 5),
+        (1, 6),
+        (6, 0),
+        (6, 1),
+    ] {
+        row(rt, plane, width, y)?;
+    }
+    Ok(())
 }
 
 // Widths that no whole number of rows has, and rows past any plane.
-fn no_rows(plane: &[i32]) {
-    row(plane, 0, 0);
-    row(plane, 4, 0);
-    row(plane, 7, 0);
-    row(plane, 18446744073709551615, 0);
-    row(plane, 3, 1073741823);
-    row(plane, 3, 1073741824);
-    row(plane, 3, 18446744073709551615);
+fn no_rows(rt: &impl Print, plane: &[i32]) -> io::Result<()> {
+    for (width, y) in [
+        (0, 0),
+        (4, 0),
+        (7, 0),
+        (18446744073709551615, 0),
+        (3, 1073741823),
+        (3, 1073741824),
+        (3, 18446744073709551615),
+    ] {
+        row(rt, plane, width, y)?;
+    }
+    Ok(())
 }
 
-fn small_rows() {
+fn small_rows(rt: &impl Print) -> io::Result<()> {
     let plane = [11, 12, 13, 21, 22, 23];
-    whole_rows(&plane);
-    no_rows(&plane);
-    row(&[], 0, 0);
-    row(&[], 1, 0);
-    row(&[], 3, 1073741824);
+    whole_rows(rt, &plane)?;
+    no_rows(rt, &plane)?;
+    row(rt, &[], 0, 0)?;
+    row(rt, &[], 1, 0)?;
+    row(rt, &[], 3, 1073741824)
 }
 
 // The first word and the last of a part that is too long to print.
-fn ends(part: &[i32]) {
+fn ends(rt: &impl Print, part: &[i32]) -> io::Result<()> {
     let n = part.len();
-    print::natural(n as u64);
-    print::text(b" words");
+    print!(rt; "{n} words")?;
     if 0 < n {
-        print::named_word(b"first", part[0]);
-        print::named_word(b"last", part[n - 1]);
+        print!(rt; " first={} last={}", part[0], part[n - 1])?;
     }
-    print::text(b"\n");
+    println!(rt)
 }
 
-fn long_row(plane: &[i32], width: usize, y: usize) {
-    asked(b"row", plane.len(), width, y);
-    checked(colour::rows::row_refusal(plane, width, y));
-    ends(colour::rows::row(plane, width, y));
+fn long_row(rt: &impl Print, plane: &[i32], width: usize, y: usize) -> io::Result<()> {
+    asked(rt, "row", plane.len(), width, y)?;
+    checked(rt, colour::rows::row_refusal(plane, width, y))?;
+    ends(rt, colour::rows::row(plane, width, y))
 }
 
 // The widest row, one word too wide, and a word that is no whole row.
-fn long_rows(all: &[i32])
+fn long_rows(rt: &impl Print, all: &[i32]) -> io::Result<()>
     requires { 65537 ≡ length all.now }
 {
     let last = &all[1..];
-    long_row(last, 65536, 0);
-    long_row(last, 65536, 1);
-    long_row(all, 65537, 0);
-    long_row(all, 65536, 0);
-    long_row(all, 1, 65536);
-    long_row(all, 1, 65537);
-    long_row(all, 1, 1073741824);
+    long_row(rt, last, 65536, 0)?;
+    long_row(rt, last, 65536, 1)?;
+    long_row(rt, all, 65537, 0)?;
+    long_row(rt, all, 65536, 0)?;
+    long_row(rt, all, 1, 65536)?;
+    long_row(rt, all, 1, 65537)?;
+    long_row(rt, all, 1, 1073741824)
 }
 
 // One word more than the widest row has; only the last is not 0, so that a line shows which end it read.
-fn widest() {
+fn widest(rt: &impl Print) -> io::Result<()> {
     let mut cells = [0; 65537];
     cells[65536] = 6;
-    long_rows(&cells);
+    long_rows(rt, &cells)
 }
 
 // Changes the first word and then the last.
@@ -241,37 +240,42 @@ fn write(part: &mut [i32]) {
 }
 
 // A row of a plane of six words, written; then the whole plane.
-fn write_row(width: usize, y: usize) {
+fn write_row(rt: &impl Print, width: usize, y: usize) -> io::Result<()> {
     let mut plane = [11, 12, 13, 21, 22, 23];
-    asked(b"row_mut", 6, width, y);
-    checked(colour::rows::row_refusal(&plane, width, y));
+    asked(rt, "row_mut", 6, width, y)?;
+    checked(rt, colour::rows::row_refusal(&plane, width, y))?;
     write(colour::rows::row_mut(&mut plane, width, y));
-    print::words(&plane);
-    print::text(b"\n");
+    print::words(rt, &plane)?;
+    println!(rt)
 }
 
-fn written_rows() {
-    write_row(3, 0);
-    write_row(3, 1);
-    write_row(3, 2);
-    write_row(1, 4);
-    write_row(6, 0);
-    write_row(0, 0);
-    write_row(4, 0);
-    write_row(65537, 0);
-    write_row(3, 1073741824);
+fn written_rows(rt: &impl Print) -> io::Result<()> {
+    for (width, y) in [
+        (3, 0),
+        (3, 1),
+        (3, 2),
+        (1, 4),
+        (6, 0),
+        (0, 0),
+        (4, 0),
+        (65537, 0),
+        (3, 1073741824),
+    ] {
+        write_row(rt, width, y)?;
+    }
+    Ok(())
 }
 
-pub fn run() {
-    starred();
-    wraps();
-    operations();
-    orders();
-    two_triples();
-    empties();
-    no_such_colours();
-    unequals();
-    small_rows();
-    widest();
-    written_rows();
+pub fn run(rt: &impl Print) -> io::Result<()> {
+    starred(rt)?;
+    wraps(rt)?;
+    operations(rt)?;
+    orders(rt)?;
+    two_triples(rt)?;
+    empties(rt)?;
+    no_such_colours(rt)?;
+    unequals(rt)?;
+    small_rows(rt)?;
+    widest(rt)?;
+    written_rows(rt)
 }

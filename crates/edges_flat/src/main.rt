@@ -8,8 +8,10 @@ mod flattening;
 mod records;
 mod trees;
 
-fn main() {
-    flattening::run();
-    direct::run();
-    records::run();
+use std::io;
+
+fn main(rt: HostRuntime) -> io::Result<()> {
+    flattening::run(&rt)?;
+    direct::run(&rt)?;
+    records::run(&rt)
 }

@@ -6,7 +6,9 @@
 mod neighbours;
 mod predictors;
 
-fn main() {
-    neighbours::run();
-    predictors::run();
+use std::io;
+
+fn main(rt: HostRuntime) -> io::Result<()> {
+    neighbours::run(&rt)?;
+    predictors::run(&rt)
 }

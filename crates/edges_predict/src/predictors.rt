@@ -1,53 +1,31 @@
 // Module 3: each predictor on one neighbourhood, then the sides of each choice, the rounding of the quotients and the ends
 // of the range.
 use predict::neighbours::PredictionData;
-use predict::predictors::{Numbered, Predictor};
+use predict::predictors::Predictor;
+use std::io;
 
-fn name(predictor: Predictor) {
-    match predictor {
-        Predictor::Zero => print::text(b"Zero"),
-        Predictor::West => print::text(b"West"),
-        Predictor::North => print::text(b"North"),
-        Predictor::AverageWestAndNorth => print::text(b"AverageWestAndNorth"),
-        Predictor::Select => print::text(b"Select"),
-        Predictor::Gradient => print::text(b"Gradient"),
-        Predictor::Weighted => print::text(b"Weighted"),
-        Predictor::NorthEast => print::text(b"NorthEast"),
-        Predictor::NorthWest => print::text(b"NorthWest"),
-        Predictor::WestWest => print::text(b"WestWest"),
-        Predictor::AverageWestAndNorthWest => print::text(b"AverageWestAndNorthWest"),
-        Predictor::AverageNorthAndNorthWest => print::text(b"AverageNorthAndNorthWest"),
-        Predictor::AverageNorthAndNorthEast => print::text(b"AverageNorthAndNorthEast"),
-        Predictor::AverageAll => print::text(b"AverageAll"),
+fn numbers(rt: &impl Print) -> io::Result<()> {
+    for value in [0, 13, 14, 4294967295] {
+        match Predictor::try_from(value) {
+            Ok(predictor) => println!(rt; "try_from {value}: {predictor:?}")?,
+            Err(_) => println!(rt; "try_from {value}: no such predictor")?,
+        }
     }
+    Ok(())
 }
 
-fn try_from(value: u32) {
-    print::text(b"try_from ");
-    print::natural(value as u64);
-    print::text(b": ");
-    match Predictor::try_from(value) {
-        Numbered::Is(predictor) => name(predictor),
-        Numbered::NoSuch => print::text(b"no such predictor"),
-    }
-    print::text(b"\n");
-}
-
-fn numbers() {
-    try_from(0);
-    try_from(13);
-    try_from(14);
-    try_from(4294967295);
-}
-
-fn guess(predictor: Predictor, data: PredictionData, weighted: i64) {
-    print::text(b"predict_one ");
-    name(predictor);
-    print::text(b" of");
-    print::seven(data);
-    print::text(b" weighted=");
-    print::signed(weighted);
-    print::answer(predictor.predict_one(data, weighted));
+fn guess(
+    rt: &impl Print,
+    predictor: Predictor,
+    data: PredictionData,
+    weighted: i64,
+) -> io::Result<()> {
+    print!(rt; "predict_one {predictor:?} of")?;
+    print::seven(rt, data)?;
+    println!(rt;
+        " weighted={weighted}: {}",
+        predictor.predict_one(data, weighted)
+    )
 }
 
 fn distinct() -> PredictionData {
@@ -62,26 +40,26 @@ fn distinct() -> PredictionData {
     }
 }
 
-fn first_seven() {
-    let data = distinct();
-    guess(Predictor::Zero, data, 1000);
-    guess(Predictor::West, data, 1000);
-    guess(Predictor::North, data, 1000);
-    guess(Predictor::AverageWestAndNorth, data, 1000);
-    guess(Predictor::Select, data, 1000);
-    guess(Predictor::Gradient, data, 1000);
-    guess(Predictor::Weighted, data, 1000);
-}
-
-fn other_seven() {
-    let data = distinct();
-    guess(Predictor::NorthEast, data, 1000);
-    guess(Predictor::NorthWest, data, 1000);
-    guess(Predictor::WestWest, data, 1000);
-    guess(Predictor::AverageWestAndNorthWest, data, 1000);
-    guess(Predictor::AverageNorthAndNorthWest, data, 1000);
-    guess(Predictor::AverageNorthAndNorthEast, data, 1000);
-    guess(Predictor::AverageAll, data, 1000);
+fn all_fourteen(rt: &impl Print) -> io::Result<()> {
+    for predictor in [
+        Predictor::Zero,
+        Predictor::West,
+        Predictor::North,
+        Predictor::AverageWestAndNorth,
+        Predictor::Select,
+        Predictor::Gradient,
+        Predictor::Weighted,
+        Predictor::NorthEast,
+        Predictor::NorthWest,
+        Predictor::WestWest,
+        Predictor::AverageWestAndNorthWest,
+        Predictor::AverageNorthAndNorthWest,
+        Predictor::AverageNorthAndNorthEast,
+        Predictor::AverageAll,
+    ] {
+        guess(rt, predictor, distinct(), 1000)?;
+    }
+    Ok(())
 }
 
 // A neighbourhood whose other four are 0.
@@ -109,67 +87,83 @@ fn all(value: i32) -> PredictionData {
     }
 }
 
-fn select(left: i32, top: i32, topleft: i32) {
-    guess(Predictor::Select, corner(left, top, topleft), 0);
-}
-
 // A tie gives top; left only where top is the nearer to topleft. In 32 bits the distances of the last three would wrap.
-fn selects() {
-    select(3, 7, 5);
-    select(3, 6, 5);
-    select(4, 7, 5);
-    select(-2147483648, 2147483647, -2147483648);
-    select(2147483647, -2147483646, -2147483648);
-    select(-2147483646, 2147483647, -2147483648);
+fn selects(rt: &impl Print) -> io::Result<()> {
+    for (left, top, topleft) in [
+        (3, 7, 5),
+        (3, 6, 5),
+        (4, 7, 5),
+        (-2147483648, 2147483647, -2147483648),
+        (2147483647, -2147483646, -2147483648),
+        (-2147483646, 2147483647, -2147483648),
+    ] {
+        guess(rt, Predictor::Select, corner(left, top, topleft), 0)?;
+    }
+    Ok(())
 }
 
-fn gradient(left: i32, top: i32, topleft: i32) {
-    guess(Predictor::Gradient, corner(left, top, topleft), 0);
+fn gradient(rt: &impl Print, left: i32, top: i32, topleft: i32) -> io::Result<()> {
+    guess(rt, Predictor::Gradient, corner(left, top, topleft), 0)
 }
 
 // topleft below both, at the lower, between, at the higher, above both
-fn gradients() {
-    gradient(10, 20, 5);
-    gradient(10, 20, 9);
-    gradient(10, 20, 10);
-    gradient(10, 20, 14);
-    gradient(10, 20, 20);
-    gradient(10, 20, 21);
-    gradient(10, 20, 25);
+fn gradients(rt: &impl Print) -> io::Result<()> {
+    for topleft in [5, 9, 10, 14, 20, 21, 25] {
+        gradient(rt, 10, 20, topleft)?;
+    }
+    Ok(())
 }
 
-fn gradient_ends() {
-    gradient(2147483647, 2147483647, -2147483648);
-    gradient(-2147483648, -2147483648, 2147483647);
-    gradient(2147483647, -2147483648, 0);
-    gradient(2147483647, -2147483648, -2147483648);
-    gradient(-2147483648, 2147483647, 2147483647);
-    gradient(2147483647, 2147483647, 2147483647);
-    gradient(-2147483648, -2147483648, -2147483648);
+fn gradient_ends(rt: &impl Print) -> io::Result<()> {
+    for (left, top, topleft) in [
+        (2147483647, 2147483647, -2147483648),
+        (-2147483648, -2147483648, 2147483647),
+        (2147483647, -2147483648, 0),
+        (2147483647, -2147483648, -2147483648),
+        (-2147483648, 2147483647, 2147483647),
+        (2147483647, 2147483647, 2147483647),
+        (-2147483648, -2147483648, -2147483648),
+    ] {
+        gradient(rt, left, top, topleft)?;
+    }
+    Ok(())
 }
 
-fn average(left: i32, top: i32) {
-    guess(Predictor::AverageWestAndNorth, corner(left, top, 0), 0);
+fn average(rt: &impl Print, left: i32, top: i32) -> io::Result<()> {
+    guess(rt, Predictor::AverageWestAndNorth, corner(left, top, 0), 0)
 }
 
 // Quotients go toward zero, also those of negative odd sums.
-fn averages() {
-    average(-3, 0);
-    average(0, -3);
-    average(3, 0);
-    average(-1, 0);
-    guess(Predictor::AverageWestAndNorthWest, corner(-4, 0, -1), 0);
-    guess(Predictor::AverageNorthAndNorthWest, corner(0, -7, 2), 0);
-    guess(Predictor::AverageNorthAndNorthEast, corner(0, -9, 0), 0);
+fn averages(rt: &impl Print) -> io::Result<()> {
+    for (left, top) in [(-3, 0), (0, -3), (3, 0), (-1, 0)] {
+        average(rt, left, top)?;
+    }
+    for (predictor, data) in [
+        (Predictor::AverageWestAndNorthWest, corner(-4, 0, -1)),
+        (Predictor::AverageNorthAndNorthWest, corner(0, -7, 2)),
+        (Predictor::AverageNorthAndNorthEast, corner(0, -9, 0)),
+    ] {
+        guess(rt, predictor, data, 0)?;
+    }
+    Ok(())
 }
 
-fn average_ends() {
-    average(2147483647, 2147483647);
-    average(-2147483648, -2147483648);
-    average(-2147483648, 2147483647);
-    guess(Predictor::AverageWestAndNorthWest, all(-2147483648), 0);
-    guess(Predictor::AverageNorthAndNorthWest, all(2147483647), 0);
-    guess(Predictor::AverageNorthAndNorthEast, all(-2147483648), 0);
+fn average_ends(rt: &impl Print) -> io::Result<()> {
+    for (left, top) in [
+        (2147483647, 2147483647),
+        (-2147483648, -2147483648),
+        (-2147483648, 2147483647),
+    ] {
+        average(rt, left, top)?;
+    }
+    for (predictor, value) in [
+        (Predictor::AverageWestAndNorthWest, -2147483648),
+        (Predictor::AverageNorthAndNorthWest, 2147483647),
+        (Predictor::AverageNorthAndNorthEast, -2147483648),
+    ] {
+        guess(rt, predictor, all(value), 0)?;
+    }
+    Ok(())
 }
 
 // toptop counts against the other five.
@@ -186,32 +180,32 @@ fn opposed(others: i32, toptop: i32) -> PredictionData {
 }
 
 // Sums of -24, -8, 8 and 24 over 16, then the ends: where toptop is opposed the guess fits no 32-bit word.
-fn average_alls() {
-    guess(Predictor::AverageAll, all(-2), 0);
-    guess(Predictor::AverageAll, all(-1), 0);
-    guess(Predictor::AverageAll, all(0), 0);
-    guess(Predictor::AverageAll, all(1), 0);
-    guess(Predictor::AverageAll, all(-2147483648), 0);
-    guess(Predictor::AverageAll, all(2147483647), 0);
-    guess(Predictor::AverageAll, opposed(2147483647, -2147483648), 0);
-    guess(Predictor::AverageAll, opposed(-2147483648, 2147483647), 0);
+fn average_alls(rt: &impl Print) -> io::Result<()> {
+    for value in [-2, -1, 0, 1, -2147483648, 2147483647] {
+        guess(rt, Predictor::AverageAll, all(value), 0)?;
+    }
+    for (others, toptop) in [(2147483647, -2147483648), (-2147483648, 2147483647)] {
+        guess(rt, Predictor::AverageAll, opposed(others, toptop), 0)?;
+    }
+    Ok(())
 }
 
 // The weighted guess goes through as it is.
-fn weighted() {
-    guess(Predictor::Weighted, all(0), 9223372036854775807);
-    guess(Predictor::Weighted, all(0), -9223372036854775808);
+fn weighted(rt: &impl Print) -> io::Result<()> {
+    for value in [9223372036854775807, -9223372036854775808] {
+        guess(rt, Predictor::Weighted, all(0), value)?;
+    }
+    Ok(())
 }
 
-pub fn run() {
-    numbers();
-    first_seven();
-    other_seven();
-    selects();
-    gradients();
-    gradient_ends();
-    averages();
-    average_ends();
-    average_alls();
-    weighted();
+pub fn run(rt: &impl Print) -> io::Result<()> {
+    numbers(rt)?;
+    all_fourteen(rt)?;
+    selects(rt)?;
+    gradients(rt)?;
+    gradient_ends(rt)?;
+    averages(rt)?;
+    average_ends(rt)?;
+    average_alls(rt)?;
+    weighted(rt)
 }

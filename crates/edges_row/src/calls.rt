@@ -1,10 +1,12 @@
 // The call with its line, and the sessions that it is made with.
 use blend::WeightedHeader;
-use row::{RowAnswer, unpack_row};
-use session::{OpenAnswer, Session};
+use refusal::Refusal;
+use row::{Stopped, unpack_row};
+use session::Session;
+use std::io;
 
 // What opening answers for width 2 and the default header.
-pub fn opened(weights: bool, mask: u32) -> OpenAnswer {
+pub fn opened(weights: bool, mask: u32) -> Result<Session, Refusal> {
     let mut cells = [0i32; 16];
     let mut memory = [0u32; 40];
     Session::open(
@@ -21,31 +23,23 @@ pub fn opened(weights: bool, mask: u32) -> OpenAnswer {
 
 // The same with a header value out of range.
 pub fn ranged(session: Session) -> Session {
-    let mut weighted = session.weighted;
-    let mut header = weighted.header;
-    header.p1c = 32;
-    weighted.header = header;
     let mut next = session;
-    next.weighted = weighted;
+    next.weighted.header.p1c = 32;
     next
 }
 
 // The same at another place.
 pub fn moved(session: Session, x: usize, y: usize) -> Session {
-    let mut weighted = session.weighted;
-    weighted.x = x;
-    weighted.y = y;
     let mut next = session;
-    next.weighted = weighted;
+    next.weighted.x = x;
+    next.weighted.y = y;
     next
 }
 
 // The same that waits for a put.
 pub fn asked(session: Session) -> Session {
-    let mut weighted = session.weighted;
-    weighted.asked = true;
     let mut next = session;
-    next.weighted = weighted;
+    next.weighted.asked = true;
     next
 }
 
@@ -56,47 +50,45 @@ pub fn closed(session: Session) -> Session {
     next
 }
 
-fn place(session: Session) {
-    let weighted = session.weighted;
-    print::named(b"x", weighted.x as u64);
-    print::named(b"y", weighted.y as u64);
+fn place(rt: &impl Print, session: &Session) -> io::Result<()> {
+    let weighted = &session.weighted;
+    print!(rt; " x={} y={}", weighted.x, weighted.y)?;
     if session.weights {
-        print::text(b" weights");
+        print!(rt; " weights")?;
     }
     if !weighted.header.in_range() {
-        print::text(b" p1c=32");
+        print!(rt; " p1c=32")?;
     }
     if weighted.asked {
-        print::text(b" asked");
+        print!(rt; " asked")?;
     }
     if !session.live {
-        print::text(b" closed");
+        print!(rt; " closed")?;
     }
+    Ok(())
 }
 
-fn told(answer: RowAnswer) -> Session {
+fn told(rt: &impl Print, session: &Session, answer: Result<(), Stopped>) -> io::Result<()> {
     match answer {
-        RowAnswer::Done(next) => {
-            print::text(b": done, next");
-            place(next);
-            next
+        Ok(()) => {
+            print!(rt; ": done, next")?;
+            place(rt, session)
         }
-        RowAnswer::Refused(halted) => {
-            let refusal = halted.refusal;
-            let session = halted.session;
-            print::refusal(refusal);
-            print::named(b"pixels", halted.pixels as u64);
+        Err(stopped) => {
+            print::refusal(rt, stopped.refusal)?;
+            print!(rt; " pixels={}", stopped.pixels)?;
             if !session.live {
-                print::text(b", closed");
+                print!(rt; ", closed")?;
             }
-            session
+            Ok(())
         }
     }
 }
 
-// The session afterwards. Plane, contexts and cells are told.
+// Plane, contexts and cells are told.
 pub fn row(
-    session: Session,
+    rt: &impl Print,
+    session: &mut Session,
     residuals: &[i32],
     references: &[i32],
     records: &[i32],
@@ -104,25 +96,27 @@ pub fn row(
     contexts: &mut [u32],
     cells: &mut [i32],
     memory: &mut [u32],
-) -> Session {
-    print::text(b"row");
-    place(session);
-    print::named(b"plane", plane.len() as u64);
-    print::named(b"residuals", residuals.len() as u64);
-    print::named(b"contexts", contexts.len() as u64);
-    print::named(b"references", references.len() as u64);
-    print::named(b"records", records.len() as u64);
-    print::named(b"memory", memory.len() as u64);
-    print::named(b"cells", cells.len() as u64);
+) -> io::Result<()> {
+    print!(rt; "row")?;
+    place(rt, session)?;
+    print!(rt;
+        " plane={} residuals={} contexts={} references={} records={} memory={} cells={}",
+        plane.len(),
+        residuals.len(),
+        contexts.len(),
+        references.len(),
+        records.len(),
+        memory.len(),
+        cells.len()
+    )?;
     let answer = unpack_row(
         session, residuals, references, records, plane, contexts, cells, memory,
     );
-    let next = told(answer);
-    print::text(b"; ");
-    print::words(plane);
-    print::naturals(contexts);
-    print::text(b" ");
-    print::words(cells);
-    print::text(b"\n");
-    next
+    told(rt, session, answer)?;
+    print!(rt; "; ")?;
+    print::words(rt, plane)?;
+    print::naturals(rt, contexts)?;
+    print!(rt; " ")?;
+    print::words(rt, cells)?;
+    println!(rt)
 }

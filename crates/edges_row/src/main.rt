@@ -7,7 +7,9 @@ mod calls;
 mod refusing;
 mod unpacking;
 
-fn main() {
-    unpacking::run();
-    refusing::run();
+use std::io;
+
+fn main(rt: HostRuntime) -> io::Result<()> {
+    unpacking::run(&rt)?;
+    refusing::run(&rt)
 }

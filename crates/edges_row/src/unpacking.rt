@@ -1,97 +1,64 @@
 // Rows that are unpacked, and one whose second pixel is refused.
 use crate::calls;
-use session::{OpenAnswer, Session};
+use session::Session;
+use std::io;
 
-// Three rows of width 2 over a plane of two, the third refused (11). Property 8 on left and right: cell 9 goes from row to row.
-fn rows(session: Session) {
+// So many rows of width 2 over a plane of two.
+fn rows(
+    rt: &impl Print,
+    opened: Session,
+    count: usize,
+    residuals: &[i32],
+    records: &[i32],
+) -> io::Result<()> {
+    let mut session = opened;
+    let mut plane = [0i32; 4];
+    let mut contexts = [99u32; 2];
+    let mut cells = [0i32; 16];
+    let mut memory = [0u32; 40];
+    for _ in 0..count {
+        calls::row(
+            rt,
+            &mut session,
+            residuals,
+            &[],
+            records,
+            &mut plane,
+            &mut contexts,
+            &mut cells,
+            &mut memory,
+        )?;
+    }
+    Ok(())
+}
+
+// The third of three is refused (11). Property 8 on left and right: cell 9 goes from row to row.
+fn carried(rt: &impl Print, opened: Session) -> io::Result<()> {
     let records = [
         8, 0, 0, 0, 1, 0, -1, 0, 1, 0, 0, 0, -1, 0, 1, 0, 0, 0, -1, 0, 1, 0, 1, 0, -1, 0, 1, 0, 1,
         0,
     ];
-    let none = [0i32; 1];
-    let mut plane = [0i32; 4];
-    let mut contexts = [99u32; 2];
-    let mut cells = [0i32; 16];
-    let mut memory = [0u32; 40];
-    let second = calls::row(
-        session,
-        &[5, 5],
-        &none[..0],
-        &records,
-        &mut plane,
-        &mut contexts,
-        &mut cells,
-        &mut memory,
-    );
-    let third = calls::row(
-        second,
-        &[5, 5],
-        &none[..0],
-        &records,
-        &mut plane,
-        &mut contexts,
-        &mut cells,
-        &mut memory,
-    );
-    calls::row(
-        third,
-        &[5, 5],
-        &none[..0],
-        &records,
-        &mut plane,
-        &mut contexts,
-        &mut cells,
-        &mut memory,
-    );
+    rows(rt, opened, 3, &[5, 5], &records)
 }
 
 // Property 3, the column, above 0 leads to a leaf with predictor 14: the second pixel's walk is refused, and the session is closed.
-fn halfway(session: Session) {
+fn halfway(rt: &impl Print, opened: Session) -> io::Result<()> {
     let records = [
         3, 0, 0, 0, 1, 0, -1, 14, 1, 0, 0, 0, -1, 14, 1, 0, 0, 0, -1, 0, 1, 0, 1, 0, -1, 0, 1, 0,
         1, 0,
     ];
-    let none = [0i32; 1];
-    let mut plane = [0i32; 4];
-    let mut contexts = [99u32; 2];
-    let mut cells = [0i32; 16];
-    let mut memory = [0u32; 40];
-    let after = calls::row(
-        session,
-        &[5, 6],
-        &none[..0],
-        &records,
-        &mut plane,
-        &mut contexts,
-        &mut cells,
-        &mut memory,
-    );
-    calls::row(
-        after,
-        &[5, 6],
-        &none[..0],
-        &records,
-        &mut plane,
-        &mut contexts,
-        &mut cells,
-        &mut memory,
-    );
+    rows(rt, opened, 2, &[5, 6], &records)
 }
 
-pub fn run() {
-    let carried = calls::opened(false, 768);
-    let OpenAnswer::Is(first) = carried else {
-        return;
-    };
-    rows(first);
-    let weighing = calls::opened(true, 768);
-    let OpenAnswer::Is(weighted) = weighing else {
-        return;
-    };
-    rows(weighted);
-    let placed = calls::opened(false, 12);
-    let OpenAnswer::Is(session) = placed else {
-        return;
-    };
-    halfway(session);
+pub fn run(rt: &impl Print) -> io::Result<()> {
+    if let Ok(session) = calls::opened(false, 768) {
+        carried(rt, session)?;
+    }
+    if let Ok(session) = calls::opened(true, 768) {
+        carried(rt, session)?;
+    }
+    if let Ok(session) = calls::opened(false, 12) {
+        halfway(rt, session)?;
+    }
+    Ok(())
 }

@@ -1,25 +1,15 @@
 // The calls, each with its line.
-use blend::{Found, WeightedHeader};
-use session::{AskAnswer, Kept, PutAnswer, Session};
+use blend::WeightedHeader;
+use refusal::Refusal;
+use session::Session;
+use std::io;
 use weighted::state::WeightedState;
 
 // A session at a place, as asks and puts leave it.
 pub fn at(width: usize, x: usize, y: usize, weights: bool, mask: u32) -> Session {
-    let found = Found {
-        p0: 0,
-        p1: 0,
-        p2: 0,
-        p3: 0,
-        pred: 0,
-    };
-    let weighted = WeightedState {
-        header: WeightedHeader::default(),
-        width,
-        x,
-        y,
-        asked: false,
-        found,
-    };
+    let mut weighted = WeightedState::start(WeightedHeader::default(), width);
+    weighted.x = x;
+    weighted.y = y;
     Session {
         weighted,
         weights,
@@ -30,34 +20,19 @@ pub fn at(width: usize, x: usize, y: usize, weights: bool, mask: u32) -> Session
     }
 }
 
-// The same with this state.
-pub fn with(session: Session, weighted: WeightedState) -> Session {
-    Session {
-        weighted,
-        weights: session.weights,
-        mask: session.mask,
-        live: session.live,
-        guess: session.guess,
-        multiplier: session.multiplier,
-    }
-}
-
 // The same that waits for a put, whose residual is the value.
 pub fn waiting(session: Session) -> Session {
-    let mut weighted = session.weighted;
-    weighted.asked = true;
-    let mut next = with(session, weighted);
+    let mut next = session;
+    next.weighted.asked = true;
     next.multiplier = 1;
     next
 }
 
 // The same with a header value out of range.
 pub fn ranged(session: Session) -> Session {
-    let mut weighted = session.weighted;
-    let mut header = weighted.header;
-    header.p1c = 32;
-    weighted.header = header;
-    with(session, weighted)
+    let mut next = session;
+    next.weighted.header.p1c = 32;
+    next
 }
 
 // A leaf record: predictor Zero, so that a value is offset + residual * multiplier, and the context.
@@ -65,105 +40,96 @@ pub fn leaf(multiplier: i32, context: i32, offset: i32) -> [i32; 6] {
     [-1, 0, multiplier, 0, context, offset]
 }
 
-fn place(session: Session) {
-    let weighted = session.weighted;
-    print::named(b"width", weighted.width as u64);
-    print::named(b"x", weighted.x as u64);
-    print::named(b"y", weighted.y as u64);
+fn place(rt: &impl Print, session: &Session) -> io::Result<()> {
+    let weighted = &session.weighted;
+    print!(rt;
+        " width={} x={} y={}",
+        weighted.width, weighted.x, weighted.y
+    )?;
     if session.weights {
-        print::text(b" weights");
+        print!(rt; " weights")?;
     }
     if !weighted.header.in_range() {
-        print::text(b" p1c=32");
+        print!(rt; " p1c=32")?;
     }
     if weighted.asked {
-        print::text(b" asked");
+        print!(rt; " asked")?;
     }
     if !session.live {
-        print::text(b" closed");
+        print!(rt; " closed")?;
     }
+    Ok(())
 }
 
-fn refused(kept: Kept) -> Session {
-    let refusal = kept.refusal;
-    let session = kept.session;
-    print::refusal(refusal);
+fn refused(rt: &impl Print, session: &Session, refusal: Refusal) -> io::Result<()> {
+    print::refusal(rt, refusal)?;
     if !session.live {
-        print::text(b", closed");
+        print!(rt; ", closed")?;
     }
-    print::text(b"; ");
-    session
+    print!(rt; "; ")
 }
 
-fn asked(answer: AskAnswer) -> Session {
-    match answer {
-        AskAnswer::Is(waiting) => {
-            print::text(b": context ");
-            print::natural(waiting.context as u64);
-            print::text(b"; ");
-            waiting.session
-        }
-        AskAnswer::Refused(kept) => refused(kept),
-    }
-}
-
-// The session afterwards. The cells are told.
+// The cells are told.
 pub fn ask(
-    session: Session,
+    rt: &impl Print,
+    session: &mut Session,
     plane: &[i32],
     references: &[i32],
     records: &[i32],
     cells: &mut [i32],
     memory: &[u32],
-) -> Session {
-    print::text(b"ask");
-    place(session);
-    print::named(b"plane", plane.len() as u64);
-    print::named(b"references", references.len() as u64);
-    print::named(b"records", records.len() as u64);
-    print::named(b"memory", memory.len() as u64);
-    print::named(b"cells", cells.len() as u64);
-    let answer = session.ask(plane, references, records, cells, memory);
-    let next = asked(answer);
-    print::words(cells);
-    print::text(b"\n");
-    next
-}
-
-fn done(answer: PutAnswer) -> Session {
-    match answer {
-        PutAnswer::Done(next) => {
-            print::text(b": done; ");
-            next
-        }
-        PutAnswer::Refused(kept) => refused(kept),
+) -> io::Result<()> {
+    print!(rt; "ask")?;
+    place(rt, session)?;
+    print!(rt;
+        " plane={} references={} records={} memory={} cells={}",
+        plane.len(),
+        references.len(),
+        records.len(),
+        memory.len(),
+        cells.len()
+    )?;
+    match session.ask(plane, references, records, cells, memory) {
+        Ok(context) => print!(rt; ": context {context}; ")?,
+        Err(refusal) => refused(rt, session, refusal)?,
     }
+    print::words(rt, cells)?;
+    println!(rt)
 }
 
-// The session afterwards. The plane is told.
-pub fn put(session: Session, residual: i32, plane: &mut [i32], memory: &mut [u32]) -> Session {
-    print::text(b"put");
-    place(session);
-    print::named_word(b"residual", residual);
-    print::named(b"memory", memory.len() as u64);
-    print::named(b"plane", plane.len() as u64);
-    let answer = session.put(residual, plane, memory);
-    let next = done(answer);
-    print::words(plane);
-    print::text(b"\n");
-    next
+// The plane is told.
+pub fn put(
+    rt: &impl Print,
+    session: &mut Session,
+    residual: i32,
+    plane: &mut [i32],
+    memory: &mut [u32],
+) -> io::Result<()> {
+    print!(rt; "put")?;
+    place(rt, session)?;
+    print!(rt;
+        " residual={residual} memory={} plane={}",
+        memory.len(),
+        plane.len()
+    )?;
+    match session.put(residual, plane, memory) {
+        Ok(()) => print!(rt; ": done; ")?,
+        Err(refusal) => refused(rt, session, refusal)?,
+    }
+    print::words(rt, plane)?;
+    println!(rt)
 }
 
 // Ask and put, without references.
 pub fn pixel(
-    session: Session,
+    rt: &impl Print,
+    session: &mut Session,
     residual: i32,
     plane: &mut [i32],
     records: &[i32],
     cells: &mut [i32],
     memory: &mut [u32],
-) -> Session {
-    let none = [0i32; 1];
-    let asked = ask(session, plane, &none[..0], records, cells, memory);
-    put(asked, residual, plane, memory)
+) -> io::Result<()> {
+    ask(rt, session, plane, &[], records, cells, memory)?;
+    put(rt, session, residual, plane, memory)
 }

@@ -4,12 +4,12 @@ ghost use Rattle.std.specs.Prelude.{◌≤◌};
 
 use crate::calls;
 use session::Session;
+use std::io;
 
 // Width 2, one row. Records: a split by column (property 3), its left leaf twice, context 1, its right leaf twice, context 2, and two
 // leaves more. The second column meets the second of the left ones, record 2, which is as given.
-fn damaged(name: &[u8], first: i32, second: i32, fifth: i32) {
-    print::text(name);
-    print::text(b"\n");
+fn damaged(rt: &impl Print, name: &str, first: i32, second: i32, fifth: i32) -> io::Result<()> {
+    println!(rt; "{name}")?;
     let records = [
         3, 0, 0, 0, 1, 0, -1, 0, 1, 0, 1, 0, first, second, 1, 0, fifth, 0, -1, 0, 1, 0, 2, 0, -1,
         0, 1, 0, 2, 0, -1, 0, 1, 0, 3, 0, -1, 0, 1, 0, 3, 0,
@@ -17,60 +17,71 @@ fn damaged(name: &[u8], first: i32, second: i32, fifth: i32) {
     let mut plane = [0i32; 2];
     let mut cells = [0i32; 16];
     let mut memory = [0u32; 1];
-    let session = calls::at(2, 0, 0, false, 4);
-    let next = calls::pixel(session, 10, &mut plane, &records, &mut cells, &mut memory);
-    let closed = calls::pixel(next, 10, &mut plane, &records, &mut cells, &mut memory);
-    calls::pixel(closed, 10, &mut plane, &records, &mut cells, &mut memory);
+    let mut session = calls::at(2, 0, 0, false, 4);
+    for _ in 0..3 {
+        calls::pixel(
+            rt,
+            &mut session,
+            10,
+            &mut plane,
+            &records,
+            &mut cells,
+            &mut memory,
+        )?;
+    }
+    Ok(())
 }
 
-fn records() {
-    damaged(b"sound", -1, 0, 1);
-    damaged(b"predictor 14 (3)", -1, 14, 1);
-    damaged(b"grandchildren out of place (4)", 0, 0, 2);
-    damaged(b"property 16 of 16 cells (10)", 16, 0, 3);
+fn records(rt: &impl Print) -> io::Result<()> {
+    damaged(rt, "sound", -1, 0, 1)?;
+    damaged(rt, "predictor 14 (3)", -1, 14, 1)?;
+    damaged(rt, "grandchildren out of place (4)", 0, 0, 2)?;
+    damaged(rt, "property 16 of 16 cells (10)", 16, 0, 3)
 }
 
 // Of a plane of 3 words, so many are lent.
-fn ask_lent(session: Session, plane_lent: usize)
+fn ask_lent(rt: &impl Print, session: Session, plane_lent: usize) -> io::Result<()>
     requires { plane_lent ≤ 3 }
 {
     let leaf = calls::leaf(1, 7, 0);
     let plane = [0i32; 3];
     let mut cells = [0i32; 16];
     let memory = [0u32; 1];
-    let none = [0i32; 1];
+    let mut next = session;
     calls::ask(
-        session,
+        rt,
+        &mut next,
         &plane[0..plane_lent],
-        &none[..0],
+        &[],
         &leaf,
         &mut cells,
         &memory,
-    );
+    )
 }
 
-fn put_lent(session: Session, plane_lent: usize)
+fn put_lent(rt: &impl Print, session: Session, plane_lent: usize) -> io::Result<()>
     requires { plane_lent ≤ 3 }
 {
     let mut plane = [0i32; 3];
     let mut memory = [0u32; 1];
-    calls::put(session, 1, &mut plane[0..plane_lent], &mut memory);
+    let mut next = session;
+    calls::put(rt, &mut next, 1, &mut plane[0..plane_lent], &mut memory)
 }
 
 // On a closed session 12, then 11, come before 13.
-fn order() {
+fn order(rt: &impl Print) -> io::Result<()> {
     let mut closed = calls::at(2, 0, 0, false, 0);
     closed.live = false;
-    ask_lent(calls::ranged(closed), 3);
-    ask_lent(closed, 3);
-    ask_lent(closed, 2);
-    put_lent(calls::ranged(closed), 3);
-    put_lent(closed, 3);
-    put_lent(closed, 2);
-    put_lent(calls::waiting(closed), 2);
+    ask_lent(rt, calls::ranged(closed), 3)?;
+    ask_lent(rt, closed, 3)?;
+    ask_lent(rt, closed, 2)?;
+    put_lent(rt, calls::ranged(closed), 3)?;
+    put_lent(rt, closed, 3)?;
+    put_lent(rt, closed, 2)?;
+    put_lent(rt, calls::waiting(closed), 2)
 }
 
-pub fn run() {
-    records();
-    order();
+pub fn run(rt: &impl Print) -> io::Result<()> {
+    records(rt)?;
+    order(rt)
 }

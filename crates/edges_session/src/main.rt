@@ -11,10 +11,12 @@ mod closing;
 mod opening;
 mod putting;
 
-fn main() {
-    opening::run();
-    asking::run();
-    putting::run();
-    closing::run();
-    channels::run();
+use std::io;
+
+fn main(rt: HostRuntime) -> io::Result<()> {
+    opening::run(&rt)?;
+    asking::run(&rt)?;
+    putting::run(&rt)?;
+    closing::run(&rt)?;
+    channels::run(&rt)
 }

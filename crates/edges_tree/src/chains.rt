@@ -3,29 +3,21 @@
 ghost use Rattle.std.specs.Prelude.{◌+◌, ◌*◌, ◌≤◌, ◌<◌, length};
 
 use crate::visit;
+use std::io;
 
-fn put_word(words: &mut [i32], at: usize, word: i32)
-    requires { at < length words.old }
-{
-    words[at] = word;
-}
-
-// The node at a place.
-fn put(words: &mut [i32], place: usize, first: i32, second: i32, third: i32, fourth: i32)
+// The node at a place, which ends in 0.
+fn put(words: &mut [i32], place: usize, node: [i32; 4])
     requires { 5 * place + 5 ≤ length words.old }
 {
     let at = 5 * place;
-    put_word(words, at, first);
-    put_word(words, at + 1, second);
-    put_word(words, at + 2, third);
-    put_word(words, at + 3, fourth);
-    put_word(words, at + 4, 0);
+    words[at..at + 4].copy_from_slice(&node);
+    words[at + 4] = 0;
 }
 
 fn leaf(words: &mut [i32], place: usize)
     requires { 5 * place + 5 ≤ length words.old }
 {
-    put(words, place, -1, 0, 0, 1);
+    put(words, place, [-1, 0, 0, 1]);
 }
 
 // A split at an even place, all splits before it at even places too, and the leaf that is its left child.
@@ -35,10 +27,7 @@ fn split(words: &mut [i32], place: usize, value: i32)
     put(
         words,
         place,
-        0,
-        value,
-        (place + 1) as i32,
-        (place + 2) as i32,
+        [0, value, (place + 1) as i32, (place + 2) as i32],
     );
     leaf(words, place + 1);
 }
@@ -47,25 +36,22 @@ fn split(words: &mut [i32], place: usize, value: i32)
 fn chain(words: &mut [i32], splits: usize)
     requires { (splits ≤ 2049) × (10 * splits + 5 ≤ length words.old) }
 {
-    let mut k = 0;
-    while k < splits {
+    for k in 0..splits {
         split(words, 2 * k, (5000 - k) as i32);
-        k += 1;
     }
     leaf(words, 2 * splits);
 }
 
-fn validate(words: &mut [i32], splits: usize)
+fn validate(rt: &impl Print, words: &mut [i32], splits: usize) -> io::Result<()>
     requires { (splits ≤ 2049) × (10 * splits + 5 ≤ length words.old) }
 {
     chain(words, splits);
-    print::text(b"validate_tree of a chain of ");
-    print::natural(splits as u64);
-    visit::validate(&words[0..10 * splits + 5]);
+    print!(rt; "validate_tree of a chain of {splits}")?;
+    visit::validate(rt, &words[..10 * splits + 5])
 }
 
 // The left child of the last split is a split too, at a value that leaves it an empty side.
-fn ends(words: &mut [i32], splits: usize)
+fn ends(rt: &impl Print, words: &mut [i32], splits: usize) -> io::Result<()>
     requires { (1 ≤ splits) × (splits ≤ 2049) × (10 * splits + 15 ≤ length words.old) }
 {
     chain(words, splits);
@@ -73,24 +59,19 @@ fn ends(words: &mut [i32], splits: usize)
     put(
         words,
         2 * splits - 1,
-        0,
-        2147483647,
-        next as i32,
-        (next + 1) as i32,
+        [0, i32::MAX, next as i32, (next + 1) as i32],
     );
     leaf(words, next);
     leaf(words, next + 1);
-    print::text(b"validate_tree of a chain of ");
-    print::natural(splits as u64);
-    print::text(b" and an empty side below");
-    visit::validate(&words[0..10 * splits + 15]);
+    print!(rt; "validate_tree of a chain of {splits} and an empty side below")?;
+    visit::validate(rt, &words[..10 * splits + 15])
 }
 
-pub fn run() {
+pub fn run(rt: &impl Print) -> io::Result<()> {
     let mut words = [0i32; 20505];
-    validate(&mut words, 1);
-    validate(&mut words, 2048);
-    validate(&mut words, 2049);
-    ends(&mut words, 2048);
-    ends(&mut words, 2049);
+    validate(rt, &mut words, 1)?;
+    validate(rt, &mut words, 2048)?;
+    validate(rt, &mut words, 2049)?;
+    ends(rt, &mut words, 2048)?;
+    ends(rt, &mut words, 2049)
 }

@@ -9,10 +9,12 @@ mod masks;
 mod shape;
 mod visit;
 
-fn main() {
-    masks::run();
-    shape::run();
-    visit::run();
-    chains::run();
-    fill::run();
+use std::io;
+
+fn main(rt: HostRuntime) -> io::Result<()> {
+    masks::run(&rt)?;
+    shape::run(&rt)?;
+    visit::run(&rt)?;
+    chains::run(&rt)?;
+    fill::run(&rt)
 }

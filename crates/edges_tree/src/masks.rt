@@ -1,65 +1,58 @@
 // The mask: a bit for each property below 32, all for others, 8 and 9 together; refused 1 and 3, whatever the children are.
-use nodes::mask::{Masked, compute_used_property_mask};
+use nodes::mask::compute_used_property_mask;
+use std::io;
 
-fn tell(words: &[i32]) {
-    let masked = compute_used_property_mask(words);
-    match masked {
-        Masked::Is(mask) => print::answer(mask as i64),
-        Masked::Refused(refusal) => print::refused(refusal),
+fn tell(rt: &impl Print, words: &[i32]) -> io::Result<()> {
+    match compute_used_property_mask(words) {
+        Ok(mask) => println!(rt; ": {mask}"),
+        Err(refusal) => print::refused(rt, refusal),
     }
 }
 
-fn mask(name: &[u8], words: &[i32]) {
-    print::text(b"mask ");
-    print::text(name);
-    tell(words);
+fn mask(rt: &impl Print, name: &str, words: &[i32]) -> io::Result<()> {
+    print!(rt; "mask {name}")?;
+    tell(rt, words)
 }
 
 // A split and two leaves.
-fn property(property: i32) {
-    print::text(b"mask");
-    print::named_word(b"property", property);
-    tell(&[property, 0, 1, 2, 0, -1, 0, 0, 1, 0, -1, 0, 0, 1, 0]);
+fn property(rt: &impl Print, property: i32) -> io::Result<()> {
+    print!(rt; "mask property={property}")?;
+    tell(rt, &[property, 0, 1, 2, 0, -1, 0, 0, 1, 0, -1, 0, 0, 1, 0])
 }
 
-fn properties() {
-    property(0);
-    property(7);
-    property(8);
-    property(9);
-    property(10);
-    property(31);
-    property(32);
-    property(40);
-    property(255);
-    property(256);
-    property(-2);
+fn properties(rt: &impl Print) -> io::Result<()> {
+    for number in [0, 7, 8, 9, 10, 31, 32, 40, 255, 256, -2] {
+        property(rt, number)?;
+    }
+    Ok(())
 }
 
-fn lists() {
+fn lists(rt: &impl Print) -> io::Result<()> {
     let leaf = [-1, 13, 0, 1, 0];
-    mask(b"of no nodes", &leaf[..0]);
-    mask(b"of a leaf", &leaf);
-    mask(b"of four words", &leaf[..4]);
+    mask(rt, "of no nodes", &leaf[..0])?;
+    mask(rt, "of a leaf", &leaf)?;
+    mask(rt, "of four words", &leaf[..4])?;
     mask(
-        b"of children out of place",
+        rt,
+        "of children out of place",
         &[3, 0, 7, 7, 0, 16, 0, 0, 0, 0],
-    );
+    )
 }
 
 // The lowest place counts.
-fn forms() {
-    mask(b"of a predictor 14", &[-1, 14, 0, 1, 0]);
-    mask(b"of a predictor -1", &[-1, -1, 0, 1, 0]);
-    mask(b"of a split that ends in 1", &[0, 0, 1, 2, 1]);
+fn forms(rt: &impl Print) -> io::Result<()> {
+    mask(rt, "of a predictor 14", &[-1, 14, 0, 1, 0])?;
+    mask(rt, "of a predictor -1", &[-1, -1, 0, 1, 0])?;
+    mask(rt, "of a split that ends in 1", &[0, 0, 1, 2, 1])?;
     mask(
-        b"of two nodes out of form after a leaf",
+        rt,
+        "of two nodes out of form after a leaf",
         &[-1, 0, 0, 1, 0, 256, 0, 0, 0, 0, -2, 0, 0, 0, 0],
-    );
+    )
 }
 
-pub fn run() {
-    properties();
-    lists();
-    forms();
+pub fn run(rt: &impl Print) -> io::Result<()> {
+    properties(rt)?;
+    lists(rt)?;
+    forms(rt)
 }

@@ -1,112 +1,114 @@
 // The shape: 1, then 3 and 4 by place, 3 before 4 at one place; the empty list passes.
 use refusal::{Refusal, Side};
-use validation::{Verdict, check_shape};
+use std::io;
+use validation::check_shape;
 
-fn side(side: Side) {
-    print::text(b": refused 7 (");
-    print::natural(side.place as u64);
-    print::text(b", property ");
-    print::natural(side.property as u64);
-    print::text(b", value ");
-    print::word(side.value);
-    print::text(b", low ");
-    print::word(side.low);
-    print::text(b", high ");
-    print::word(side.high);
-    print::text(b")");
+fn side(rt: &impl Print, side: Side) -> io::Result<()> {
+    print!(rt;
+        ": refused 7 ({}, property {}, value {}, low {}, high {})",
+        side.place, side.property, side.value, side.low, side.high
+    )
 }
 
-fn refused(refusal: Refusal) {
+fn refused(rt: &impl Print, refusal: Refusal) -> io::Result<()> {
     match refusal {
-        Refusal::EmptySide(given) => side(given),
-        _ => print::refusal(refusal),
+        Refusal::EmptySide(given) => side(rt, given),
+        _ => print::refusal(rt, refusal),
     }
 }
 
-pub fn told(verdict: Verdict) {
+pub fn told(rt: &impl Print, verdict: Result<(), Refusal>) -> io::Result<()> {
     match verdict {
-        Verdict::Accepted => print::text(b": accepted"),
-        Verdict::Refused(refusal) => refused(refusal),
+        Ok(()) => print!(rt; ": accepted"),
+        Err(refusal) => refused(rt, refusal),
     }
 }
 
-fn shape(name: &[u8], words: &[i32]) {
-    print::text(b"check_shape ");
-    print::text(name);
-    told(check_shape(words));
-    print::text(b"\n");
+fn shape(rt: &impl Print, name: &str, words: &[i32]) -> io::Result<()> {
+    print!(rt; "check_shape {name}")?;
+    told(rt, check_shape(words))?;
+    println!(rt)
 }
 
-fn counts() {
+fn counts(rt: &impl Print) -> io::Result<()> {
     let leaf = [-1, 13, 0, 1, 0];
-    shape(b"of no words", &leaf[..0]);
-    shape(b"of four words", &leaf[..4]);
-    shape(b"of a leaf", &leaf);
-    shape(b"of six words", &[-1, 13, 0, 1, 0, -1]);
+    shape(rt, "of no words", &leaf[..0])?;
+    shape(rt, "of four words", &leaf[..4])?;
+    shape(rt, "of a leaf", &leaf)?;
+    shape(rt, "of six words", &[-1, 13, 0, 1, 0, -1])
 }
 
-fn lengths() {
-    shape(b"of two leaves", &[-1, 0, 0, 1, 0, -1, 0, 0, 1, 0]);
-    shape(b"of a split alone", &[0, 0, 1, 2, 0]);
-    shape(b"of a split and one leaf", &[0, 0, 1, 2, 0, -1, 0, 0, 1, 0]);
+fn lengths(rt: &impl Print) -> io::Result<()> {
+    shape(rt, "of two leaves", &[-1, 0, 0, 1, 0, -1, 0, 0, 1, 0])?;
+    shape(rt, "of a split alone", &[0, 0, 1, 2, 0])?;
     shape(
-        b"of a split and two leaves",
+        rt,
+        "of a split and one leaf",
+        &[0, 0, 1, 2, 0, -1, 0, 0, 1, 0],
+    )?;
+    shape(
+        rt,
+        "of a split and two leaves",
         &[0, 0, 1, 2, 0, -1, 0, 0, 1, 0, -1, 0, 0, 1, 0],
-    );
+    )?;
     shape(
-        b"of a split and three leaves",
+        rt,
+        "of a split and three leaves",
         &[
             0, 0, 1, 2, 0, -1, 0, 0, 1, 0, -1, 0, 0, 1, 0, -1, 0, 0, 1, 0,
         ],
-    );
+    )
 }
 
-fn children(left: i32, right: i32) {
-    print::text(b"check_shape");
-    print::named_word(b"left", left);
-    print::named_word(b"right", right);
+fn children(rt: &impl Print, left: i32, right: i32) -> io::Result<()> {
+    print!(rt; "check_shape left={left} right={right}")?;
     let words = [0, 0, left, right, 0, -1, 0, 0, 1, 0, -1, 0, 0, 1, 0];
-    told(check_shape(&words));
-    print::text(b"\n");
+    told(rt, check_shape(&words))?;
+    println!(rt)
 }
 
-fn places() {
-    children(1, 2);
-    children(2, 1);
-    children(1, 3);
-    children(0, 2);
-    children(1, 1);
-    children(-1, 2);
-    children(-1, 0);
+fn places(rt: &impl Print) -> io::Result<()> {
+    children(rt, 1, 2)?;
+    children(rt, 2, 1)?;
+    children(rt, 1, 3)?;
+    children(rt, 0, 2)?;
+    children(rt, 1, 1)?;
+    children(rt, -1, 2)?;
+    children(rt, -1, 0)
 }
 
 // 3 before 4 at one place, and the lower place before either.
-fn order() {
+fn order(rt: &impl Print) -> io::Result<()> {
     shape(
-        b"of a split out of place and a predictor 14",
+        rt,
+        "of a split out of place and a predictor 14",
         &[0, 0, 2, 1, 0, -1, 14, 0, 1, 0, -1, 0, 0, 1, 0],
-    );
+    )?;
     shape(
-        b"of a predictor 14 and a split out of place",
+        rt,
+        "of a predictor 14 and a split out of place",
         &[0, 0, 1, 2, 0, -1, 14, 0, 1, 0, 0, 0, 4, 3, 0],
-    );
+    )?;
     shape(
-        b"of a split out of place that ends in 1",
+        rt,
+        "of a split out of place that ends in 1",
         &[0, 0, 2, 1, 1, -1, 0, 0, 1, 0, -1, 0, 0, 1, 0],
-    );
+    )?;
     shape(
-        b"of a leaf and a predictor 14",
+        rt,
+        "of a leaf and a predictor 14",
         &[-1, 0, 0, 1, 0, -1, 14, 0, 1, 0],
-    );
+    )?;
     shape(
-        b"of two leaves and a word",
+        rt,
+        "of two leaves and a word",
         &[-1, 0, 0, 1, 0, -1, 0, 0, 1, 0, 0],
-    );
+    )
 }
 
-pub fn run() {
-    counts();
-    lengths();
-    places();
-    order();
+pub fn run(rt: &impl Print) -> io::Result<()> {
+    counts(rt)?;
+    lengths(rt)?;
+    places(rt)?;
+    order(rt)
 }

@@ -8,9 +8,11 @@ mod opening;
 mod pixels;
 mod saving;
 
-fn main() {
-    opening::run();
-    pixels::run();
-    memory::run();
-    saving::run();
+use std::io;
+
+fn main(rt: HostRuntime) -> io::Result<()> {
+    opening::run(&rt)?;
+    pixels::run(&rt)?;
+    memory::run(&rt)?;
+    saving::run(&rt)
 }

@@ -1,39 +1,42 @@
 // What puts leave in the memory: the five words of the current position, and the sums of the next position of the other half.
 use crate::pixels;
+use std::io;
 
-fn words(memory: &[u32]) {
-    print::text(b"memory");
-    print::naturals(memory);
-    print::text(b"\n");
+fn words(rt: &impl Print, memory: &[u32]) -> io::Result<()> {
+    print!(rt; "memory")?;
+    print::naturals(rt, memory)?;
+    println!(rt)
 }
 
 // Width 1: each half has three positions. The second row writes the first half.
-fn values(first: i32, second: i32) {
+fn values(rt: &impl Print, first: i32, second: i32) -> io::Result<()> {
     let mut memory = [0u32; 30];
-    let asked = pixels::ask(pixels::at(1, 0, 0, false), &memory, pixels::same(0));
-    let next = pixels::put(asked, &mut memory, first);
-    words(&memory);
-    let again = pixels::ask(next, &memory, pixels::same(first));
-    pixels::put(again, &mut memory, second);
-    words(&memory);
+    let mut state = pixels::at(1, 0, 0, false);
+    pixels::ask(rt, &mut state, &memory, pixels::same(0))?;
+    pixels::put(rt, &mut state, &mut memory, first)?;
+    words(rt, &memory)?;
+    pixels::ask(rt, &mut state, &memory, pixels::same(first))?;
+    pixels::put(rt, &mut state, &mut memory, second)?;
+    words(rt, &memory)
 }
 
 // The first put of -2^31 stores error 0, of 2^31 - 1 stores 8: the low 32 bits of their eightfold.
-fn ends() {
-    values(-2147483648, 0);
-    values(2147483647, 0);
-    values(10, 20);
+fn ends(rt: &impl Print) -> io::Result<()> {
+    values(rt, -2147483648, 0)?;
+    values(rt, 2147483647, 0)?;
+    values(rt, 10, 20)
 }
 
 // Sums that are full wrap.
-fn full() {
+fn full(rt: &impl Print) -> io::Result<()> {
     let mut memory = [4294967295u32; 30];
-    let asked = pixels::ask(pixels::at(1, 0, 0, false), &memory, pixels::same(0));
-    pixels::put(asked, &mut memory, 10);
-    words(&memory);
+    let mut state = pixels::at(1, 0, 0, false);
+    pixels::ask(rt, &mut state, &memory, pixels::same(0))?;
+    pixels::put(rt, &mut state, &mut memory, 10)?;
+    words(rt, &memory)
 }
 
-pub fn run() {
-    ends();
-    full();
+pub fn run(rt: &impl Print) -> io::Result<()> {
+    ends(rt)?;
+    full(rt)
 }

@@ -1,7 +1,8 @@
 // Ask and put: the starred pixels, the turns (13), the last row (11), the memory lent (8), what is clamped, ties of the property.
 use blend::{Found, WeightedHeader};
 use predict::neighbours::PredictionData;
-use weighted::state::{Asked, Put, WeightedState};
+use std::io;
+use weighted::state::WeightedState;
 
 pub fn none() -> Found {
     Found {
@@ -36,67 +37,55 @@ pub fn same(v: i32) -> PredictionData {
     }
 }
 
-fn place(state: WeightedState) {
-    print::named(b"width", state.width as u64);
-    print::named(b"x", state.x as u64);
-    print::named(b"y", state.y as u64);
+fn place(rt: &impl Print, state: WeightedState) -> io::Result<()> {
+    print!(rt; " width={} x={} y={}", state.width, state.x, state.y)?;
     if state.asked {
-        print::text(b" asked");
+        print!(rt; " asked")?;
+    }
+    Ok(())
+}
+
+fn found(rt: &impl Print, guess: i64, property: i32) -> io::Result<()> {
+    println!(rt; ": guess {guess} property {property}")
+}
+
+pub fn ask(
+    rt: &impl Print,
+    state: &mut WeightedState,
+    memory: &[u32],
+    data: PredictionData,
+) -> io::Result<()> {
+    print!(rt; "ask")?;
+    place(rt, *state)?;
+    match state.ask(memory, data) {
+        Ok(answer) => found(rt, answer.guess, answer.property),
+        Err(refusal) => print::refused(rt, refusal),
     }
 }
 
-fn found(guess: i64, property: i32) {
-    print::text(b": guess ");
-    print::signed(guess);
-    print::text(b" property ");
-    print::word(property);
-    print::text(b"\n");
-}
-
-// The state afterwards, the old one where it is refused.
-pub fn ask(state: WeightedState, memory: &[u32], data: PredictionData) -> WeightedState {
-    print::text(b"ask");
-    place(state);
-    let asked = state.ask(memory, data);
-    match asked {
-        Asked::Is(answer) => {
-            found(answer.guess, answer.property);
-            answer.state
-        }
-        Asked::Refused(kept) => {
-            let refusal = kept.refusal;
-            print::refused(refusal);
-            kept.state
-        }
-    }
-}
-
-pub fn put(state: WeightedState, memory: &mut [u32], value: i32) -> WeightedState {
-    print::text(b"put");
-    print::named_word(b"value", value);
-    place(state);
-    let put = state.put(memory, value);
-    match put {
-        Put::Done(next) => {
-            print::text(b": done\n");
-            next
-        }
-        Put::Refused(kept) => {
-            let refusal = kept.refusal;
-            print::refused(refusal);
-            kept.state
-        }
+pub fn put(
+    rt: &impl Print,
+    state: &mut WeightedState,
+    memory: &mut [u32],
+    value: i32,
+) -> io::Result<()> {
+    print!(rt; "put value={value}")?;
+    place(rt, *state)?;
+    match state.put(memory, value) {
+        Ok(()) => println!(rt; ": done"),
+        Err(refusal) => print::refused(rt, refusal),
     }
 }
 
 // Default header, width 4, put 10: the next guess is 10, its property -80.
-fn starred() {
+fn starred(rt: &impl Print) -> io::Result<()> {
     let mut memory = [0u32; 60];
-    let first = ask(at(4, 0, 0, false), &memory, same(0));
-    let second = put(first, &mut memory, 10);
-    let third = ask(second, &memory, same(10));
-    let fourth = put(third, &mut memory, 10);
-    ask(fourth, &memory, same(10));
+    let mut state = at(4, 0, 0, false);
+    ask(rt, &mut state, &memory, same(0))?;
+    put(rt, &mut state, &mut memory, 10)?;
+    ask(rt, &mut state, &memory, same(10))?;
+    put(rt, &mut state, &mut memory, 10)?;
+    ask(rt, &mut state, &memory, same(10))
 }
 
 // A state that waits for a put with a prediction that was not found by asking.
@@ -118,68 +107,64 @@ fn forged(pred: i64) -> WeightedState {
 }
 
 // An ask where a put is due, and the other way round; a state that no ask has left.
-fn turns() {
+fn turns(rt: &impl Print) -> io::Result<()> {
     let mut memory = [0u32; 60];
-    let asked = ask(at(4, 0, 0, false), &memory, same(0));
-    ask(asked, &memory, same(0));
-    put(at(4, 0, 0, false), &mut memory, 10);
-    put(forged(1099511627776), &mut memory, 10);
-    put(forged(1099511627775), &mut memory, 10);
+    let mut state = at(4, 0, 0, false);
+    ask(rt, &mut state, &memory, same(0))?;
+    ask(rt, &mut state, &memory, same(0))?;
+    put(rt, &mut at(4, 0, 0, false), &mut memory, 10)?;
+    put(rt, &mut forged(1099511627776), &mut memory, 10)?;
+    put(rt, &mut forged(1099511627775), &mut memory, 10)
 }
 
 // Row 2^30 is past the picture; so is a column that the width has not.
-fn places() {
+fn places(rt: &impl Print) -> io::Result<()> {
     let memory = [0u32; 60];
-    ask(at(4, 0, 1073741823, false), &memory, same(0));
-    ask(at(4, 0, 1073741824, false), &memory, same(0));
-    ask(at(4, 4, 0, false), &memory, same(0));
-    ask(at(4, 0, 1073741824, true), &memory, same(0));
+    ask(rt, &mut at(4, 0, 1073741823, false), &memory, same(0))?;
+    ask(rt, &mut at(4, 0, 1073741824, false), &memory, same(0))?;
+    ask(rt, &mut at(4, 4, 0, false), &memory, same(0))?;
+    ask(rt, &mut at(4, 0, 1073741824, true), &memory, same(0))
 }
 
-fn lent() {
+fn lent(rt: &impl Print) -> io::Result<()> {
     let mut memory = [0u32; 59];
-    ask(at(4, 0, 0, false), &memory, same(0));
-    put(at(4, 0, 0, true), &mut memory, 0);
+    ask(rt, &mut at(4, 0, 0, false), &memory, same(0))?;
+    put(rt, &mut at(4, 0, 0, true), &mut memory, 0)
 }
 
 // Errors at NW, N, NE and W of column 1 in row 0, width 3: positions 0, 1, 2 of the first half, 0 of the second.
-fn errors(nw: u32, n: u32, ne: u32, w: u32) {
-    print::text(b"errors");
-    print::named(b"nw", nw as u64);
-    print::named(b"n", n as u64);
-    print::named(b"ne", ne as u64);
-    print::named(b"w", w as u64);
-    print::text(b" ");
+fn errors(rt: &impl Print, nw: u32, n: u32, ne: u32, w: u32) -> io::Result<()> {
+    print!(rt; "errors nw={nw} n={n} ne={ne} w={w} ")?;
     let mut memory = [0u32; 50];
     memory[0] = nw;
     memory[5] = n;
     memory[10] = ne;
     memory[25] = w;
-    ask(at(3, 1, 0, false), &memory, same(0));
+    ask(rt, &mut at(3, 1, 0, false), &memory, same(0))
 }
 
 // Equal errors are clamped, unequal ones of a sign are not, and 0 counts as positive.
-fn clamping() {
-    errors(5, 5, 5, 5);
-    errors(49, 50, 50, 50);
-    errors(50, 0, 50, 50);
-    errors(50, 4294967246, 50, 50);
-    errors(4294967246, 4294967246, 4294967246, 4294967200);
+fn clamping(rt: &impl Print) -> io::Result<()> {
+    errors(rt, 5, 5, 5, 5)?;
+    errors(rt, 49, 50, 50, 50)?;
+    errors(rt, 50, 0, 50, 50)?;
+    errors(rt, 50, 4294967246, 50, 50)?;
+    errors(rt, 4294967246, 4294967246, 4294967246, 4294967200)
 }
 
 // The first of W, N, NW, NE with the largest magnitude: a tie keeps the earlier, and |-2^31| beats 2^31 - 1.
-fn properties() {
-    errors(0, 4294967289, 0, 7);
-    errors(4294967288, 4294967289, 8, 7);
-    errors(0, 2147483647, 2147483648, 0);
-    errors(0, 2147483648, 0, 2147483648);
+fn properties(rt: &impl Print) -> io::Result<()> {
+    errors(rt, 0, 4294967289, 0, 7)?;
+    errors(rt, 4294967288, 4294967289, 8, 7)?;
+    errors(rt, 0, 2147483647, 2147483648, 0)?;
+    errors(rt, 0, 2147483648, 0, 2147483648)
 }
 
-pub fn run() {
-    starred();
-    turns();
-    places();
-    lent();
-    clamping();
-    properties();
+pub fn run(rt: &impl Print) -> io::Result<()> {
+    starred(rt)?;
+    turns(rt)?;
+    places(rt)?;
+    lent(rt)?;
+    clamping(rt)?;
+    properties(rt)
 }

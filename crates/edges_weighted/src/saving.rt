@@ -1,87 +1,91 @@
 // Saving and restoring: only where an ask that opens an even row is due (13), and with room (8, the memory before the list).
 use crate::pixels;
-use weighted::saving::Copied;
+use refusal::Refusal;
+use std::io;
 use weighted::state::WeightedState;
 
-fn told(copied: Copied) {
+fn told(rt: &impl Print, copied: Result<(), Refusal>) -> io::Result<()> {
     match copied {
-        Copied::Done => print::text(b": done"),
-        Copied::Refused(refusal) => print::refusal(refusal),
+        Ok(()) => print!(rt; ": done"),
+        Err(refusal) => print::refusal(rt, refusal),
     }
 }
 
-fn list(saved: &[u32]) {
-    print::text(b";");
-    print::naturals(saved);
-    print::text(b"\n");
+fn list(rt: &impl Print, saved: &[u32]) -> io::Result<()> {
+    print!(rt; ";")?;
+    print::naturals(rt, saved)?;
+    println!(rt)
 }
 
 // Two rows of width 1 put, then saved and restored into another memory.
-fn kept() {
+fn kept(rt: &impl Print) -> io::Result<()> {
     let mut memory = [0u32; 30];
     let mut saved = [7u32; 16];
-    let a = pixels::ask(pixels::at(1, 0, 0, false), &memory, pixels::same(0));
-    let b = pixels::put(a, &mut memory, 10);
-    let c = pixels::ask(b, &memory, pixels::same(10));
-    let d = pixels::put(c, &mut memory, 30);
-    print::text(b"save_state y=2");
-    told(d.save_state(&memory, &mut saved));
-    list(&saved);
+    let mut state = pixels::at(1, 0, 0, false);
+    pixels::ask(rt, &mut state, &memory, pixels::same(0))?;
+    pixels::put(rt, &mut state, &mut memory, 10)?;
+    pixels::ask(rt, &mut state, &memory, pixels::same(10))?;
+    pixels::put(rt, &mut state, &mut memory, 30)?;
+    print!(rt; "save_state y=2")?;
+    told(rt, state.save_state(&memory, &mut saved))?;
+    list(rt, &saved)?;
     let mut other = [5u32; 30];
-    print::text(b"restore_state y=2");
-    told(d.restore_state(&mut other, &saved));
-    list(&other);
+    print!(rt; "restore_state y=2")?;
+    told(rt, state.restore_state(&mut other, &saved))?;
+    list(rt, &other)
 }
 
-fn save(name: &[u8], state: WeightedState) {
+fn save(rt: &impl Print, name: &str, state: WeightedState) -> io::Result<()> {
     let memory = [1u32; 40];
     let mut saved = [7u32; 20];
-    print::text(b"save_state ");
-    print::text(name);
-    told(state.save_state(&memory, &mut saved));
-    list(&saved);
+    print!(rt; "save_state {name}")?;
+    told(rt, state.save_state(&memory, &mut saved))?;
+    list(rt, &saved)
 }
 
-fn restore(name: &[u8], state: WeightedState) {
+fn restore(rt: &impl Print, name: &str, state: WeightedState) -> io::Result<()> {
     let mut memory = [1u32; 40];
     let saved = [7u32; 20];
-    print::text(b"restore_state ");
-    print::text(name);
-    told(state.restore_state(&mut memory, &saved));
-    list(&memory);
+    print!(rt; "restore_state {name}")?;
+    told(rt, state.restore_state(&mut memory, &saved))?;
+    list(rt, &memory)
 }
 
 // Width 2: the memory has 40 words, the list 20.
-fn turns() {
-    save(b"at the start", pixels::at(2, 0, 0, false));
-    save(b"at an odd row", pixels::at(2, 0, 1, false));
-    save(b"in a row", pixels::at(2, 1, 0, false));
-    save(b"after an ask", pixels::at(2, 0, 0, true));
-    save(b"at row 2^30", pixels::at(2, 0, 1073741824, false));
-    save(b"past the row", pixels::at(2, 2, 0, false));
+fn turns(rt: &impl Print) -> io::Result<()> {
+    save(rt, "at the start", pixels::at(2, 0, 0, false))?;
+    save(rt, "at an odd row", pixels::at(2, 0, 1, false))?;
+    save(rt, "in a row", pixels::at(2, 1, 0, false))?;
+    save(rt, "after an ask", pixels::at(2, 0, 0, true))?;
+    save(rt, "at row 2^30", pixels::at(2, 0, 1073741824, false))?;
+    save(rt, "past the row", pixels::at(2, 2, 0, false))
 }
 
-fn turns_back() {
-    restore(b"at the start", pixels::at(2, 0, 0, false));
-    restore(b"at an odd row", pixels::at(2, 0, 1, false));
-    restore(b"after an ask", pixels::at(2, 0, 0, true));
+fn turns_back(rt: &impl Print) -> io::Result<()> {
+    restore(rt, "at the start", pixels::at(2, 0, 0, false))?;
+    restore(rt, "at an odd row", pixels::at(2, 0, 1, false))?;
+    restore(rt, "after an ask", pixels::at(2, 0, 0, true))
 }
 
-fn room() {
+fn room(rt: &impl Print) -> io::Result<()> {
     save(
-        b"of a width that needs 50 words",
+        rt,
+        "of a width that needs 50 words",
         pixels::at(3, 0, 0, false),
-    );
+    )?;
     let memory = [1u32; 40];
     let mut saved = [7u32; 19];
-    print::text(b"save_state into 19 words");
-    told(pixels::at(2, 0, 0, false).save_state(&memory, &mut saved));
-    list(&saved);
+    print!(rt; "save_state into 19 words")?;
+    told(
+        rt,
+        pixels::at(2, 0, 0, false).save_state(&memory, &mut saved),
+    )?;
+    list(rt, &saved)
 }
 
-pub fn run() {
-    kept();
-    turns();
-    turns_back();
-    room();
+pub fn run(rt: &impl Print) -> io::Result<()> {
+    kept(rt)?;
+    turns(rt)?;
+    turns_back(rt)?;
+    room(rt)
 }

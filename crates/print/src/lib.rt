@@ -1,116 +1,53 @@
-// What the edge programs print with: numbers, refusals, neighbourhoods and planes, on standard output. No contract can say
-// which bytes a call of C's writes, so the functions have none: each is proved safe, and to end, for any arguments. What a
-// program wrote is compared with its file `stdout`. No function tells that a write failed; the comparison finds it.
+// What the edge programs print beside numbers and text: refusals, neighbourhoods and planes. No contract says which bytes the
+// runtime writes, so the functions have none: each is proved safe, and to end, for any arguments. What a program wrote is
+// compared with its file `stdout`.
 #![tactic(auto)]
 
 use predict::neighbours::PredictionData;
 use refusal::Refusal;
-
-// The number of standard output.
-const STDOUT: i32 = 1;
-
-// The bytes as they are.
-pub fn text(bytes: &[u8]) {
-    io::write_all(STDOUT, bytes);
-}
-
-// n in decimal.
-pub fn natural(n: u64) {
-    io::print_decimal(STDOUT, n);
-}
-
-// |n|. That of -2^63 fits no i64: one is added after the sign is gone.
-fn magnitude(n: i64) -> u64 {
-    if n < 0 { (-1 - n) as u64 + 1 } else { n as u64 }
-}
-
-// n in decimal, with a minus where it is negative.
-pub fn signed(n: i64) {
-    if n < 0 {
-        text(b"-");
-    }
-    natural(magnitude(n));
-}
-
-// The same of a 32-bit word.
-pub fn word(n: i32) {
-    signed(integer::widen(n));
-}
-
-// A name with its number, as ` x=3`.
-pub fn named(name: &[u8], n: u64) {
-    text(b" ");
-    text(name);
-    text(b"=");
-    natural(n);
-}
-
-// A name with its word, as ` cur=-3`.
-pub fn named_word(name: &[u8], n: i32) {
-    text(b" ");
-    text(name);
-    text(b"=");
-    word(n);
-}
-
-// The end of a line whose answer is a number.
-pub fn answer(n: i64) {
-    text(b": ");
-    signed(n);
-    text(b"\n");
-}
+use std::io;
 
 // A refusal by its number and first detail, as `: refused 11 (0)`.
-pub fn refusal(refusal: Refusal) {
-    text(b": refused ");
-    natural(refusal.number() as u64);
-    text(b" (");
-    natural(refusal.first_detail() as u64);
-    text(b")");
+pub fn refusal(rt: &impl Print, refusal: Refusal) -> io::Result<()> {
+    let number = refusal.number();
+    let detail = refusal.first_detail();
+    print!(rt; ": refused {number} ({detail})")
 }
 
 // The end of a line whose answer is a refusal.
-pub fn refused(given: Refusal) {
-    refusal(given);
-    text(b"\n");
+pub fn refused(rt: &impl Print, given: Refusal) -> io::Result<()> {
+    refusal(rt, given)?;
+    println!(rt)
 }
 
 // The seven neighbours, each with its name.
-pub fn seven(data: PredictionData) {
-    named_word(b"left", data.left);
-    named_word(b"top", data.top);
-    named_word(b"toptop", data.toptop);
-    named_word(b"topleft", data.topleft);
-    named_word(b"topright", data.topright);
-    named_word(b"leftleft", data.leftleft);
-    named_word(b"toprightright", data.toprightright);
+pub fn seven(rt: &impl Print, data: PredictionData) -> io::Result<()> {
+    print!(rt;
+        " left={} top={} toptop={} topleft={}",
+        data.left, data.top, data.toptop, data.topleft
+    )?;
+    print!(rt;
+        " topright={} leftleft={} toprightright={}",
+        data.topright, data.leftleft, data.toprightright
+    )
 }
 
 // The words of a plane, as `[3 -1]`.
-pub fn words(plane: &[i32]) {
-    text(b"[");
-    let mut i = 0;
-    while i < plane.len() {
+pub fn words(rt: &impl Print, plane: &[i32]) -> io::Result<()> {
+    print!(rt; "[")?;
+    for i in 0..plane.len() {
         if 0 < i {
-            text(b" ");
+            print!(rt; " ")?;
         }
-        word(plane[i]);
-        i += 1;
+        print!(rt; "{}", plane[i])?;
     }
-    text(b"]");
-}
-
-// A number after a blank.
-fn spaced(n: u32) {
-    text(b" ");
-    natural(n as u64);
+    print!(rt; "]")
 }
 
 // Numbers one after the other, each after a blank.
-pub fn naturals(numbers: &[u32]) {
-    let mut i = 0;
-    while i < numbers.len() {
-        spaced(numbers[i]);
-        i += 1;
+pub fn naturals(rt: &impl Print, numbers: &[u32]) -> io::Result<()> {
+    for number in numbers {
+        print!(rt; " {number}")?;
     }
+    Ok(())
 }
