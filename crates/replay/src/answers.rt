@@ -21,163 +21,98 @@
 //   context, the multiplier, a byte each, and the hops
 // 13 build_flat_tree: words 1 to 12 as in 9; 13 how many records; 14 the place of one; 15.. its six words
 // 14 predict_flat: as 12
-ghost use Rattle.std.specs.Prelude.{◌+◌, ◌≤◌, length};
+use crate::fault::{Fault, expect};
+use crate::record::Record;
+use crate::{fillings, pixels, trees, walks};
+use predict::predictors::Predictor;
 
-use crate::outcome::{Outcome, told};
-use crate::{fillings, pixels, trees, walks, words};
-use arith::Weight;
-use colour::restore::Restored;
-use predict::neighbours::{Neighbourhood, PredictionData};
-use predict::predictors::{Numbered, Predictor};
-
-fn floor_log2(bytes: &[u8]) -> Outcome
-    requires { 128 ≤ length bytes.now }
-{
-    told(arith::floor_log2_nonzero(words::long_bits(bytes, 1)) == words::bits(bytes, 3))
+fn floor_log2(record: &Record) -> Result<(), Fault> {
+    expect(arith::floor_log2_nonzero(record.long_bits(1)) == record.bits(3))
 }
 
-fn error_weight(bytes: &[u8]) -> Outcome
-    requires { 128 ≤ length bytes.now }
-{
-    match arith::error_weight(words::bits(bytes, 1), words::bits(bytes, 2)) {
-        Weight::Is(weight) => told(weight == words::bits(bytes, 3)),
-        Weight::Refused(_) => Outcome::Refused,
-    }
+fn error_weight(record: &Record) -> Result<(), Fault> {
+    let weight = arith::error_weight(record.bits(1), record.bits(2))?;
+    expect(weight == record.bits(3))
 }
 
-// Whether the seven are the words from k on.
-fn are(data: PredictionData, bytes: &[u8], k: usize) -> bool
-    requires { (128 ≤ length bytes.now) × (k + 7 ≤ 32) }
-{
-    data.left == words::word(bytes, k)
-        && data.top == words::word(bytes, k + 1)
-        && data.toptop == words::word(bytes, k + 2)
-        && data.topleft == words::word(bytes, k + 3)
-        && data.topright == words::word(bytes, k + 4)
-        && data.leftleft == words::word(bytes, k + 5)
-        && data.toprightright == words::word(bytes, k + 6)
-}
-
-fn found_are(found: Neighbourhood, bytes: &[u8], k: usize) -> Outcome
-    requires { (128 ≤ length bytes.now) × (k + 7 ≤ 32) }
-{
-    match found {
-        Neighbourhood::Is(data) => told(are(data, bytes, k)),
-        Neighbourhood::Refused(_) => Outcome::Refused,
-    }
-}
-
-fn get_rows(bytes: &[u8]) -> Outcome
-    requires { 128 ≤ length bytes.now }
-{
-    let width = words::bits(bytes, 1) as usize;
+fn get_rows(record: &Record) -> Result<(), Fault> {
+    let width = record.bits(1) as usize;
     if 6 < width {
-        return Outcome::NoForm;
+        return Err(Fault::NoForm);
     }
-    let x = words::bits(bytes, 2) as usize;
-    let y = words::bits(bytes, 3) as usize;
-    let row = words::row(bytes, 4);
-    let above = words::row(bytes, 10);
-    let above2 = words::row(bytes, 16);
+    let row = record.words::<6>(4);
+    let above = record.words::<6>(10);
+    let above2 = record.words::<6>(16);
     let found = predict::neighbours::get_rows(
-        &row[0..width],
-        &above[0..width],
-        &above2[0..width],
-        x,
-        y,
-    );
-    found_are(found, bytes, 22)
+        &row[..width],
+        &above[..width],
+        &above2[..width],
+        record.bits(2) as usize,
+        record.bits(3) as usize,
+    )?;
+    expect(found == record.seven(22))
 }
 
-fn update_for_interior_row(bytes: &[u8]) -> Outcome
-    requires { 128 ≤ length bytes.now }
-{
-    let width = words::bits(bytes, 1) as usize;
-    let needs = words::bits(bytes, 4);
-    if 6 < width {
-        return Outcome::NoForm;
+fn update_for_interior_row(record: &Record) -> Result<(), Fault> {
+    let width = record.bits(1) as usize;
+    let needs = record.bits(4);
+    if 6 < width || 3 < needs {
+        return Err(Fault::NoForm);
     }
-    if 3 < needs {
-        return Outcome::NoForm;
-    }
-    let x = words::bits(bytes, 2) as usize;
-    let cur = words::word(bytes, 3);
-    let before = words::seven(bytes, 5);
-    let above = words::row(bytes, 12);
-    let above2 = words::row(bytes, 18);
-    let found = before.update_for_interior_row(
-        &above[0..width],
-        &above2[0..width],
-        x,
-        cur,
+    let above = record.words::<6>(12);
+    let above2 = record.words::<6>(18);
+    let found = record.seven(5).update_for_interior_row(
+        &above[..width],
+        &above2[..width],
+        record.bits(2) as usize,
+        record.word(3),
         needs & 1 != 0,
         needs & 2 != 0,
-    );
-    found_are(found, bytes, 24)
+    )?;
+    expect(found == record.seven(24))
 }
 
-fn predict_one(bytes: &[u8]) -> Outcome
-    requires { 128 ≤ length bytes.now }
-{
-    match Predictor::try_from(words::bits(bytes, 1)) {
-        Numbered::Is(predictor) => {
-            let guess = predictor.predict_one(words::seven(bytes, 2), words::long_word(bytes, 9));
-            told(guess == words::long_word(bytes, 11))
-        }
-        Numbered::NoSuch => Outcome::Refused,
-    }
+fn predict_one(record: &Record) -> Result<(), Fault> {
+    let predictor = Predictor::try_from(record.bits(1))?;
+    let guess = predictor.predict_one(record.seven(2), record.long_word(9));
+    expect(guess == record.long_word(11))
 }
 
-fn restored(a: &mut [i32], b: &mut [i32], c: &mut [i32], bytes: &[u8]) -> Outcome
-    requires { 128 ≤ length bytes.now }
-{
-    let operation = words::bits(bytes, 1);
-    let order = words::bits(bytes, 2);
-    match colour::restore::do_rct_step(a, b, c, operation, order) {
-        Restored::Done => told(
-            words::plane_is(a, bytes, 16)
-                && words::plane_is(b, bytes, 20)
-                && words::plane_is(c, bytes, 24),
-        ),
-        Restored::Refused(_) => Outcome::Refused,
+fn do_rct_step(record: &Record) -> Result<(), Fault> {
+    let n = record.bits(3) as usize;
+    if n < 1 || 4 < n {
+        return Err(Fault::NoForm);
     }
-}
-
-fn do_rct_step(bytes: &[u8]) -> Outcome
-    requires { 128 ≤ length bytes.now }
-{
-    let n = words::bits(bytes, 3) as usize;
-    if n < 1 {
-        return Outcome::NoForm;
-    }
-    if 4 < n {
-        return Outcome::NoForm;
-    }
-    let mut a = words::plane(bytes, 4);
-    let mut b = words::plane(bytes, 8);
-    let mut c = words::plane(bytes, 12);
-    restored(&mut a[0..n], &mut b[0..n], &mut c[0..n], bytes)
+    let mut a = record.words::<4>(4);
+    let mut b = record.words::<4>(8);
+    let mut c = record.words::<4>(12);
+    colour::restore::do_rct_step(
+        &mut a[..n],
+        &mut b[..n],
+        &mut c[..n],
+        record.bits(1),
+        record.bits(2),
+    )?;
+    expect(record.holds(&a[..n], 16) && record.holds(&b[..n], 20) && record.holds(&c[..n], 24))
 }
 
 // Whether the library's answer is the record's.
-pub fn hold(bytes: &[u8]) -> Outcome
-    requires { 128 ≤ length bytes.now }
-{
-    match words::bits(bytes, 0) {
-        1 => floor_log2(bytes),
-        2 => error_weight(bytes),
-        3 => get_rows(bytes),
-        4 => update_for_interior_row(bytes),
-        5 => predict_one(bytes),
-        6 => do_rct_step(bytes),
-        7 => pixels::pixel(bytes, false),
-        8 => pixels::pixel(bytes, true),
-        9 => trees::tree(bytes, false),
-        10 => trees::tree(bytes, true),
-        11 => fillings::filling(bytes),
-        12 => walks::walk(bytes, 12),
-        13 => walks::walk(bytes, 13),
-        14 => walks::walk(bytes, 14),
-        _ => Outcome::NoForm,
+pub fn hold(record: &Record) -> Result<(), Fault> {
+    match record.bits(0) {
+        1 => floor_log2(record),
+        2 => error_weight(record),
+        3 => get_rows(record),
+        4 => update_for_interior_row(record),
+        5 => predict_one(record),
+        6 => do_rct_step(record),
+        7 => pixels::pixel(record, false),
+        8 => pixels::pixel(record, true),
+        9 => trees::mask(record),
+        10 => trees::verdict(record),
+        11 => fillings::filling(record),
+        12 => walks::direct(record),
+        13 => walks::form(record),
+        14 => walks::flat(record),
+        _ => Err(Fault::NoForm),
     }
 }

@@ -5,48 +5,33 @@
 #![tactic(auto)]
 
 mod answers;
+mod fault;
 mod fillings;
-mod outcome;
 mod pixels;
+mod record;
 mod tally;
 mod trees;
 mod walks;
-mod words;
 
 ghost use Rattle.std.specs.Prelude.{◌≤◌, length};
 
-use outcome::Outcome;
+use fault::Fault;
+use record::Record;
+use std::io;
 use std::io::Read;
 use tally::Tally;
 
-#[derive(Drop)]
-enum Step {
-    // more may follow
-    On(Tally),
-    Ended(Tally),
-    Stopped(Tally, Outcome),
-}
-
-// Compares records until one stops the run. Bytes at the end that fill no record are one cut short.
-fn compare(bytes: &[u8], equal: Tally) -> Step {
-    let mut tally = equal;
-    let mut at = 0;
-    while at < bytes.len() {
-        if bytes.len() - at < 128 {
-            return Step::Stopped(tally, Outcome::CutShort);
-        }
-        let record = &bytes[at..at + 128];
-        match answers::hold(record) {
-            Outcome::Equal => {
-                tally = tally.more(words::bits(record, 0));
-            }
-            other => {
-                return Step::Stopped(tally, other);
-            }
-        }
-        at += 128;
+// Compares records until one is at fault. Bytes at the end that fill no record are one cut short.
+fn compare(bytes: &[u8], tally: &mut Tally) -> Result<(), Fault> {
+    for chunk in bytes.chunks(128) {
+        let Ok(bytes) = <[u8; 128]>::try_from(chunk) else {
+            return Err(Fault::CutShort);
+        };
+        let record = Record { bytes };
+        answers::hold(&record)?;
+        tally.count(record.bits(0));
     }
-    Step::On(tally)
+    Ok(())
 }
 
 // Reads until the bytes are full, the input ends or a read fails, and answers how many bytes came.
@@ -72,74 +57,48 @@ fn is_at_end(input: &mut impl Read) -> bool {
     matches!(input.read(&mut byte), Ok(0))
 }
 
-// Reads up to 512 records. A buffer that is not full is the last one, so no record lies in two.
-fn read_some(input: &mut impl Read, equal: Tally) -> Step {
+// Reads up to 512 records, and answers whether more may follow. A buffer that is not full is the last one, so no record lies in two.
+fn read_some(input: &mut impl Read, tally: &mut Tally) -> Result<bool, Fault> {
     let mut buffer = [0u8; 65536];
     let n = read_full(input, &mut buffer);
     if 0 < n {
-        return compare(&buffer[..n], equal);
+        compare(&buffer[..n], tally)?;
+        return Ok(true);
     }
     if is_at_end(input) {
-        Step::Ended(equal)
+        Ok(false)
     } else {
-        Step::Stopped(equal, Outcome::Unread)
+        Err(Fault::Unread)
     }
 }
 
-// Nothing says that an input ends, so the loop has a number of turns that no run uses up.
-fn read_all(input: &mut impl Read) -> Step {
-    let mut tally = Tally::none();
+// Whether the input came to its end. Nothing says that an input ends, so the loop has a number of turns that no run uses up.
+fn read_all(input: &mut impl Read, tally: &mut Tally) -> Result<bool, Fault> {
     for _ in 0..u64::MAX {
-        match read_some(input, tally) {
-            Step::On(next) => {
-                tally = next;
-            }
-            Step::Ended(last) => {
-                return Step::Ended(last);
-            }
-            Step::Stopped(last, why) => {
-                return Step::Stopped(last, why);
-            }
+        if !read_some(input, tally)? {
+            return Ok(true);
         }
     }
-    Step::On(tally)
+    Ok(false)
 }
 
 // No record at all is no success: then the input is missing.
-fn end(rt: &impl Print, tally: Tally) {
-    if tally.all == 0 {
-        tally::text(rt, b"no records\n");
-    } else {
-        tally::text(rt, b"all equal\n");
+fn end(rt: &impl Print, tally: &Tally, ended: Result<bool, Fault>) -> io::Result<()> {
+    match ended {
+        Ok(true) if tally.all == 0 => println!(rt; "no records"),
+        Ok(true) => println!(rt; "all equal"),
+        Ok(false) => println!(rt; "the input goes on"),
+        Err(fault) => {
+            let all = tally.all;
+            println!(rt; "record {all} {fault}")
+        }
     }
 }
 
-fn stop(rt: &impl Print, tally: Tally, why: Outcome) {
-    tally::text(rt, b"record ");
-    tally::natural(rt, tally.all);
-    match why {
-        Outcome::Equal => tally::text(rt, b" is equal\n"),
-        Outcome::Differs => tally::text(rt, b" differs\n"),
-        Outcome::Refused => tally::text(rt, b" is refused\n"),
-        Outcome::NoForm => tally::text(rt, b" has no form\n"),
-        Outcome::CutShort => tally::text(rt, b" is cut short\n"),
-        Outcome::Unread => tally::text(rt, b" cannot be read\n"),
-    }
-}
-
+// That standard output cannot be written is told nowhere.
 fn main(rt: HostRuntime) {
-    match read_all(&mut rt.reader()) {
-        Step::On(tally) => {
-            tally.print(&rt);
-            tally::text(&rt, b"the input goes on\n");
-        }
-        Step::Ended(tally) => {
-            tally.print(&rt);
-            end(&rt, tally);
-        }
-        Step::Stopped(tally, why) => {
-            tally.print(&rt);
-            stop(&rt, tally, why);
-        }
-    }
+    let mut tally = Tally::none();
+    let ended = read_all(&mut rt.reader(), &mut tally);
+    tally.print(&rt);
+    let _ = end(&rt, &tally, ended);
 }

@@ -1,144 +1,95 @@
 // Records 9 and 10: a tree in the order of its splits, its mask and its verdict. The Rust does not tell the place of a split
 // with an empty side, so that it is not compared.
-ghost use Rattle.std.specs.Prelude.{◌+◌, ◌*◌, ◌<◌, ◌≤◌, length};
+ghost use Rattle.std.specs.Prelude.{◌+◌, ◌*◌, ◌<◌, ◌≤◌, length, IfOk};
 
-use crate::outcome::{Outcome, told};
-use crate::words;
-use nodes::mask::{Masked, compute_used_property_mask};
+use crate::fault::{Fault, expect};
+use crate::record::Record;
+use nodes::mask::compute_used_property_mask;
 use refusal::Refusal;
-use validation::{Verdict, validate_tree};
+use validation::validate_tree;
 
-fn put_word(list: &mut [i32], at: usize, word: i32)
-    requires { at < length list.old }
+// Split k of the record, as a node.
+fn split(record: &Record, k: usize) -> [i32; 5]
+    requires { k < 8 }
 {
-    list[at] = word;
-}
-
-// The node at a place.
-fn put(list: &mut [i32], place: usize, first: i32, second: i32, third: i32, fourth: i32, fifth: i32)
-    requires { 5 * place + 5 ≤ length list.old }
-{
-    let at = 5 * place;
-    put_word(list, at, first);
-    put_word(list, at + 1, second);
-    put_word(list, at + 2, third);
-    put_word(list, at + 3, fourth);
-    put_word(list, at + 4, fifth);
-}
-
-// Split k of the record.
-fn put_split(list: &mut [i32], place: usize, k: usize, bytes: &[u8])
-    requires { (5 * place + 5 ≤ length list.old) × (k < 8) × (128 ≤ length bytes.now) }
-{
-    let property = integer::from_bits(words::small(bytes, 8 + k));
-    let value = words::word(bytes, 5 + k);
-    put(
-        list,
-        place,
-        property,
-        value,
+    [
+        record.byte(8 + k) as i32,
+        record.word(5 + k),
         (2 * k + 1) as i32,
         (2 * k + 2) as i32,
         0,
-    );
+    ]
 }
 
 // No two leaves of a tree are alike.
-fn put_leaf(list: &mut [i32], place: usize)
-    requires { (5 * place + 5 ≤ length list.old) × (place < 17) }
+fn leaf(place: usize) -> [i32; 5]
+    requires { place < 17 }
 {
-    let predictor = (place % 14) as i32;
     let offset = if place % 2 == 1 {
         -3
     } else {
         (100 * place) as i32
     };
-    put(
-        list,
-        place,
+    [
         -1,
-        predictor,
+        (place % 14) as i32,
         offset,
         (place + 1) as i32,
         place as i32,
-    );
+    ]
 }
 
-// A split where the low bit says so, else a leaf; the splits put so far.
-fn put_node(list: &mut [i32], place: usize, k: usize, bits: u32, bytes: &[u8]) -> usize
-    requires { (5 * place + 5 ≤ length list.old) × (place < 17) × (k ≤ 8) × (128 ≤ length bytes.now) }
-    ensures { result ≤ 8 }
+// The nodes of the record's tree: splits where the bits of its first word say so, as many as it has, else leaves.
+fn put_tree(list: &mut [i32], nodes: usize, record: &Record)
+    requires { (5 * nodes ≤ length list.old) × (nodes ≤ 17) }
 {
-    if bits % 2 == 1 {
-        if k < 8 {
-            put_split(list, place, k, bytes);
-            return k + 1;
-        }
-    }
-    put_leaf(list, place);
-    k
-}
-
-pub fn put_tree(list: &mut [i32], nodes: usize, bytes: &[u8])
-    requires { (5 * nodes ≤ length list.old) × (nodes ≤ 17) × (128 ≤ length bytes.now) }
-{
-    let mut bits = words::bits(bytes, 1);
+    let mut bits = record.bits(1);
     let mut k = 0;
-    let mut place = 0;
-    while place < nodes {
-        k = put_node(list, place, k, bits, bytes);
-        bits = bits / 2;
-        place += 1;
+    for place in 0..nodes {
+        let node = if bits % 2 == 1 && k < 8 {
+            k += 1;
+            split(record, k - 1)
+        } else {
+            leaf(place)
+        };
+        list[5 * place..5 * place + 5].copy_from_slice(&node);
+        bits /= 2;
     }
 }
 
-fn masked(list: &[i32], bytes: &[u8]) -> Outcome
-    requires { 128 ≤ length bytes.now }
+// The tree of a record, and how many words it has.
+pub fn tree(record: &Record) -> Result<([i32; 85], usize), Fault>
+    ensures { IfOk result (λ tree. tree.1 ≤ 85) }
 {
-    match compute_used_property_mask(list) {
-        Masked::Is(mask) => told(mask == words::bits(bytes, 13)),
-        Masked::Refused(_) => Outcome::Refused,
-    }
-}
-
-fn refused(refusal: Refusal, bytes: &[u8]) -> Outcome
-    requires { 128 ≤ length bytes.now }
-{
-    match refusal {
-        Refusal::EmptySide(side) => told(
-            words::bits(bytes, 13) == 7
-                && side.property == words::bits(bytes, 14)
-                && side.value == words::word(bytes, 15)
-                && side.low == words::word(bytes, 16)
-                && side.high == words::word(bytes, 17),
-        ),
-        _ => Outcome::Refused,
-    }
-}
-
-fn validated(list: &[i32], bytes: &[u8]) -> Outcome
-    requires { 128 ≤ length bytes.now }
-{
-    let mut work = [0i32; 10762];
-    match validate_tree(list, &mut work) {
-        Verdict::Accepted => told(words::bits(bytes, 13) == 0),
-        Verdict::Refused(refusal) => refused(refusal, bytes),
-    }
-}
-
-// A record of a mask, or of a verdict.
-pub fn tree(bytes: &[u8], validates: bool) -> Outcome
-    requires { 128 ≤ length bytes.now }
-{
-    let nodes = words::bits(bytes, 2) as usize;
+    let nodes = record.bits(2) as usize;
     if 17 < nodes {
-        return Outcome::NoForm;
+        return Err(Fault::NoForm);
     }
     let mut list = [0i32; 85];
-    put_tree(&mut list, nodes, bytes);
-    if validates {
-        validated(&list[0..5 * nodes], bytes)
-    } else {
-        masked(&list[0..5 * nodes], bytes)
+    put_tree(&mut list, nodes, record);
+    Ok((list, 5 * nodes))
+}
+
+// A record of a mask.
+pub fn mask(record: &Record) -> Result<(), Fault> {
+    let (list, words) = tree(record)?;
+    let mask = compute_used_property_mask(&list[..words])?;
+    expect(mask == record.bits(13))
+}
+
+// A record of a verdict.
+pub fn verdict(record: &Record) -> Result<(), Fault> {
+    let (list, words) = tree(record)?;
+    let mut work = [0i32; 10762];
+    match validate_tree(&list[..words], &mut work) {
+        Ok(()) => expect(record.bits(13) == 0),
+        Err(Refusal::EmptySide(side)) => expect(
+            record.bits(13) == 7
+                && side.property == record.bits(14)
+                && side.value == record.word(15)
+                && side.low == record.word(16)
+                && side.high == record.word(17),
+        ),
+        Err(_) => Err(Fault::Refused),
     }
 }

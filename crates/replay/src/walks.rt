@@ -1,127 +1,60 @@
 // Records 12 to 14: a tree as in records 9 and 10, and a walk down it, direct or flat, or a record of its flat form.
-ghost use Rattle.std.specs.Prelude.{◌≡◌, ◌+◌, ◌*◌, ◌<◌, ◌≤◌, length};
+ghost use Rattle.std.specs.Prelude.{◌≤◌, ◌*◌, IfOk};
 
-use crate::outcome::{Outcome, told};
-use crate::{trees, words};
+use crate::fault::{Fault, expect};
+use crate::record::Record;
+use crate::trees::tree;
 use flat::predict_flat;
-use flatten::{Flattened, build_flat_tree};
-use walk::{Walked, predict};
-
-fn cells(bytes: &[u8]) -> [i32; 16]
-    requires { 128 ≤ length bytes.now }
-    ensures { 16 ≡ length result }
-{
-    [
-        words::word(bytes, 13),
-        words::word(bytes, 14),
-        words::word(bytes, 15),
-        words::word(bytes, 16),
-        words::word(bytes, 17),
-        words::word(bytes, 18),
-        words::word(bytes, 19),
-        words::word(bytes, 20),
-        words::word(bytes, 21),
-        words::word(bytes, 22),
-        words::word(bytes, 23),
-        words::word(bytes, 24),
-        words::word(bytes, 25),
-        words::word(bytes, 26),
-        words::word(bytes, 27),
-        words::word(bytes, 28),
-    ]
-}
+use flatten::build_flat_tree;
+use walk::{PredictionResult, predict};
 
 // Context and multiplier in a byte each, then the hops.
-fn answered(walked: Walked, bytes: &[u8]) -> Outcome
-    requires { 128 ≤ length bytes.now }
-{
-    let last = words::bits(bytes, 31);
-    match walked {
-        Walked::Is(result) => told(
-            result.guess == words::long_word(bytes, 29)
-                && result.context == last % 256
-                && result.multiplier == last / 256 % 256
-                && result.hops == last / 65536,
-        ),
-        Walked::Refused(_) => Outcome::Refused,
-    }
-}
-
-fn direct(list: &[i32], bytes: &[u8]) -> Outcome
-    requires { 128 ≤ length bytes.now }
-{
-    let cells = cells(bytes);
-    answered(predict(list, &cells, words::seven(bytes, 17), 0), bytes)
-}
-
-fn flat(output: &[i32], count: usize, bytes: &[u8]) -> Outcome
-    requires { (6 * count ≤ length output.now) × (count ≤ 33) × (128 ≤ length bytes.now) }
-{
-    let cells = cells(bytes);
-    answered(
-        predict_flat(&output[0..6 * count], &cells, words::seven(bytes, 17), 0),
-        bytes,
+fn is(res: PredictionResult, record: &Record) -> Result<(), Fault> {
+    let last = record.bits(31);
+    expect(
+        res.guess == record.long_word(29)
+            && res.context == last % 256
+            && res.multiplier == last / 256 % 256
+            && res.hops == last / 65536,
     )
 }
 
-// Whether record k has the six words of the Rust's.
-fn lies(output: &[i32], count: usize, bytes: &[u8]) -> Outcome
-    requires { (198 ≤ length output.now) × (128 ≤ length bytes.now) }
-{
-    let k = words::bits(bytes, 14) as usize;
-    if 32 < k {
-        return Outcome::NoForm;
-    }
-    let first = 6 * k;
-    told(
-        count == words::bits(bytes, 13) as usize
-            && output[first] == words::word(bytes, 15)
-            && output[first + 1] == words::word(bytes, 16)
-            && output[first + 2] == words::word(bytes, 17)
-            && output[first + 3] == words::word(bytes, 18)
-            && output[first + 4] == words::word(bytes, 19)
-            && output[first + 5] == words::word(bytes, 20),
-    )
+// A record of the direct walk.
+pub fn direct(record: &Record) -> Result<(), Fault> {
+    let (list, words) = tree(record)?;
+    let cells = record.words::<16>(13);
+    let result = predict(&list[..words], &cells, record.seven(17), 0)?;
+    is(result, record)
 }
 
-fn either(output: &[i32], count: usize, bytes: &[u8], walks: bool) -> Outcome
-    requires { (198 ≤ length output.now) × (128 ≤ length bytes.now) }
+// The flat form of the record's tree, and how many records it has.
+fn flattened(record: &Record) -> Result<([i32; 198], usize), Fault>
+    ensures { IfOk result (λ form. 6 * form.1 ≤ 198) }
 {
-    if 33 < count {
-        return Outcome::NoForm;
-    }
-    if walks {
-        flat(output, count, bytes)
-    } else {
-        lies(output, count, bytes)
-    }
-}
-
-fn flattened(list: &[i32], bytes: &[u8], walks: bool) -> Outcome
-    requires { 128 ≤ length bytes.now }
-{
+    let (list, words) = tree(record)?;
     let mut ring = [0i32; 18];
     let mut output = [0i32; 198];
-    let answer = build_flat_tree(list, &mut ring, &mut output);
-    match answer {
-        Flattened::Records(count) => either(&output, count, bytes, walks),
-        Flattened::Refused(_) => Outcome::Refused,
+    let count = build_flat_tree(&list[..words], &mut ring, &mut output)?;
+    if 33 < count {
+        return Err(Fault::NoForm);
     }
+    Ok((output, count))
 }
 
-// Of kind 12 the direct walk, of 13 the flat form, of 14 the flat walk.
-pub fn walk(bytes: &[u8], kind: u32) -> Outcome
-    requires { 128 ≤ length bytes.now }
-{
-    let nodes = words::bits(bytes, 2) as usize;
-    if 17 < nodes {
-        return Outcome::NoForm;
+// A record of the flat walk.
+pub fn flat(record: &Record) -> Result<(), Fault> {
+    let (output, count) = flattened(record)?;
+    let cells = record.words::<16>(13);
+    let result = predict_flat(&output[..6 * count], &cells, record.seven(17), 0)?;
+    is(result, record)
+}
+
+// A record of the flat form: how many records, and the six words of one.
+pub fn form(record: &Record) -> Result<(), Fault> {
+    let (output, count) = flattened(record)?;
+    let k = record.bits(14) as usize;
+    if 32 < k {
+        return Err(Fault::NoForm);
     }
-    let mut list = [0i32; 85];
-    trees::put_tree(&mut list, nodes, bytes);
-    if kind == 12 {
-        direct(&list[0..5 * nodes], bytes)
-    } else {
-        flattened(&list[0..5 * nodes], bytes, kind == 14)
-    }
+    expect(count == record.bits(13) as usize && record.holds(&output[6 * k..6 * k + 6], 15))
 }

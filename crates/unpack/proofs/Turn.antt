@@ -6,14 +6,12 @@ use mathlib.Core.Path.{◌≡◌, refl, sym, ap, ◌∙◌}
 use native.Mathlib.Numerals.{add-one}
 use Prim.Native.Nat.{ℕ, ◌+◌}
 use Rattle.refusal.proofs.Outcomes.{no_refusal}
-use Rattle.refusal.specs.Paper.{Outcome, gives, refuses}
-use Rattle.session.specs.Session.{asks, puts, may_put, put_by, Putting, Asks, Puts, session_asked, said_put, session_put}
-use Rattle.session.specs.declared.AskAnswer.{AskAnswer}
-use Rattle.session.specs.declared.AskAnswer.TheVariants as asked
-use Rattle.session.specs.declared.PutAnswer.{PutAnswer}
+use Rattle.refusal.specs.Paper.{Outcome, gives, refuses, said}
+use Rattle.refusal.specs.declared.Refusal.{Refusal}
+use Rattle.session.specs.Session.{asks, puts, may_put, put_by, Putting}
 use Rattle.session.specs.declared.Session.{Session}
-use Rattle.session.specs.declared.Waiting.{Waiting}
-use Rattle.unpack.specs.Steps.{Before, one_pixel, steps, Goes}
+use Rattle.std.proofs.Common.{Result, Ok, Err}
+use Rattle.unpack.specs.Steps.{Before, one_pixel, steps, IfRefused}
 
 -- where a put says a refusal, its plane is the old one
 kept : (o : Outcome Unit) (next : Putting) (s : Session) (plane : List ℤ) (m : List ℕ) (number : ℕ) (details : List ℤ)
@@ -26,20 +24,19 @@ refused_keeps : (s : Session) (v : ℤ) (plane : List ℤ) (m : List ℕ) (numbe
 unfolding puts
 refused_keeps s v plane m number details e = kept (may_put s (length plane) (length m)) _ s plane m number details refl e
 
-module _
-    (s : Session) (plane cells : List ℤ) (m : List ℕ) (records : List ℤ) (k : ℕ) {r : AskAnswer} {cells' : List ℤ}
-    (by_ask : Asks s plane [] records cells m r cells') {w : Waiting} (is : r ≡ asked.Is w) where
-  due_is : w.session ≡ (asks s plane [] records cells m).session
-  due_is = sym (ap session_asked is) ∙ by_ask.session_is
+-- what ask and put leave of a pixel
+pub goes : (records : List ℤ) (k : ℕ) (b : Before) {s' s'' : Session} {v : ℤ} {plane' cells' : List ℤ} {m' : List ℕ}
+    → s' ≡ (asks b.session b.plane [] records b.cells b.memory).session → cells' ≡ (asks b.session b.plane [] records b.cells b.memory).cells
+    → v ≡ get_or b.plane k (pos 0)
+    → s'' ≡ (puts s' v b.plane b.memory).session → plane' ≡ (puts s' v b.plane b.memory).plane → m' ≡ (puts s' v b.plane b.memory).memory
+    → record { session = s''; plane = plane'; cells = cells'; memory = m' } ≡ one_pixel records k b
+goes records k b asked cells_are is put_is plane_is memory_is = rw (put_is, plane_is, memory_is, cells_are, asked, is)
 
-  pub goes : {v : ℤ} → v ≡ get_or plane k (pos 0) → {q : PutAnswer} {plane' : List ℤ} {m' : List ℕ} → Puts w.session v plane m q plane' m'
-      → Goes records k (record { session = s; plane = plane; cells = cells; memory = m }) plane' cells' m' q
-  goes v_is by_put =
-      let p = rw (due_is, v_is) at by_put in
-      record {
-        goes_on = λ next e. rw (sym (ap session_put e) ∙ p.session_is, p.plane_is, p.memory_is, by_ask.cells_are);
-        stays = λ refused e. by_put.plane_is ∙ refused_keeps w.session _ plane m _ _ (sym (ap said_put e) ∙ by_put.answers);
-      }
+-- a put that is refused
+pub stays : (r : Result Unit Refusal) (s : Session) (v : ℤ) (plane : List ℤ) (m : List ℕ) {plane' : List ℤ}
+    → said r ≡ (puts s v plane m).says → plane' ≡ (puts s v plane m).plane → IfRefused r (plane' ≡ plane)
+stays (Ok done) s v plane m says is = tt
+stays (Err refusal) s v plane m says is = is ∙ refused_keeps s v plane m _ _ says
 
 -- one step more
 pub next_step : (records : List ℤ) (k : ℕ) (first : Before) {b next : Before} → b ≡ steps records first k → next ≡ one_pixel records k b → next ≡ steps records first (k + 1)

@@ -10,11 +10,6 @@ unfoldable pub word_at : List ℕ → ℕ → ℤ
 word_at bytes k =
     wrap (pos (get_or bytes (4 * k) 0 + 256 * get_or bytes (4 * k + 1) 0 + 65536 * get_or bytes (4 * k + 2) 0 + 16777216 * get_or bytes (4 * k + 3) 0))
 
--- the whole words of the bytes go to the front, as many as there is room for
-pub record PutsWords (bytes : List ℕ) (words : List ℤ) (r : ℕ) (words' : List ℤ) : Type 0 where
-  pub counts : r ≡ min (length bytes / 4) (length words)
-  pub fills : words' ≡ filled (word_at bytes) r words
-
 -- ---- what is written
 
 -- a word is four bytes, the low one first

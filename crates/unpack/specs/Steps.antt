@@ -1,13 +1,9 @@
 -- A channel over a plane in which each pixel's residual stands where its value will: ask, then put what stands there, pixel after pixel.
-use Rattle.std.specs.Prelude.{List, [], ◌≡◌, ℕ, zero, suc, ◌≤◌, ℤ, pos, get_or}
+use Rattle.std.specs.Prelude.{List, [], ◌≡◌, ℕ, zero, suc, ℤ, pos, get_or, Result, Ok, Err, IfErr}
 use Rattle.session.specs.Session.{asks, puts}
 use Rattle.refusal.specs.declared.Refusal.{Refusal}
-use Rattle.session.specs.declared.Kept.{Kept}
-use Rattle.session.specs.declared.PutAnswer.{PutAnswer}
-use Rattle.session.specs.declared.PutAnswer.TheVariants as put
 use Rattle.session.specs.declared.Session.{Session}
-use Rattle.unpack.specs.declared.channel.Ended.{Ended}
-use Rattle.unpack.specs.declared.channel.Stop.TheVariants as stop
+use Rattle.unpack.specs.declared.channel.Stopped.{Stopped}
 
 -- the session and what is lent, before a pixel
 pub record Before : Type 0 where
@@ -27,16 +23,11 @@ module _ (records : List ℤ) where
   steps b zero = b
   steps b (suc k) = one_pixel k (steps b k)
 
-  -- what a pixel leaves; a refusal leaves the plane
-  pub record Goes (k : ℕ) (b : Before) (plane' cells' : List ℤ) (m' : List ℕ) (r : PutAnswer) : Type 0 where
-    pub goes_on : (s : Session) → r ≡ put.Done s → record { session = s; plane = plane'; cells = cells'; memory = m' } ≡ one_pixel k b
-    pub stays : (refused : Kept) → r ≡ put.Refused refused → plane' ≡ b.plane
+-- what holds of a refusal
+abbrev pub IfRefused : Result Unit Refusal → Type 0 → Type 0
+IfRefused r P = IfErr r (λ refusal. P)
 
-  -- the pixels that are done are unpacked, and without a refusal they are all
-  pub record Unpacks (b : Before) (count : ℕ) (r : Ended) (plane' : List ℤ) : Type 0 where
-    pub within : r.done ≤ count
-    pub all : r.stop ≡ stop.AtEnd → r.done ≡ count
-    pub plane_is : plane' ≡ (steps b r.done).plane
-
-abbrev pub refused_at : ℕ → Refusal → Ended
-refused_at k refusal = record { done = k; stop = stop.Refused refusal }
+-- how many pixels are done: without a refusal all
+abbrev pub done_of : ℕ → Result Unit Stopped → ℕ
+done_of count (Ok done) = count
+done_of count (Err stopped) = stopped.done

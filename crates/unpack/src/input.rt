@@ -1,9 +1,9 @@
 // Words from standard input, the low byte first. No contract can say what standard input gives, so those of the functions that
 // read it say how many words there are at the most.
-ghost use Rattle.std.specs.Prelude.{◌≡◌, ◌+◌, ◌*◌, ◌≤◌, ◌<◌, length};
-ghost use Rattle.unpack.specs.Bytes.{word_at, PutsWords};
+ghost use Rattle.std.specs.Prelude.{◌≡◌, ◌+◌, ◌*◌, ◌/◌, ◌≤◌, ◌<◌, length, min};
+ghost use Rattle.integer.specs.Fill.{filled};
+ghost use Rattle.unpack.specs.Bytes.{word_at};
 
-use crate::said;
 use integer::from_bits;
 use std::io::Read;
 
@@ -29,17 +29,14 @@ fn word(bytes: &[u8], k: usize) -> i32
 
 // Puts the whole words of the bytes at the front, as many as there is room for, and answers how many.
 fn put_words(bytes: &[u8], words: &mut [i32]) -> usize
-    ensures { PutsWords bytes.now words.old result words.new }
+    ensures counts { result ≡ min (length bytes.now / 4) (length words.old) }
+    ensures fills { words.new ≡ filled (word_at bytes.now) result words.old }
 {
-    let mut k = 0;
-    while k < words.len() {
-        if bytes.len() / 4 <= k {
-            return k;
-        }
+    let n = (bytes.len() / 4).min(words.len());
+    for k in 0..n {
         words[k] = word(bytes, k);
-        k += 1;
     }
-    k
+    n
 }
 
 // Reads until the bytes are full, the input ends or a read fails, and answers how many bytes came.
@@ -97,10 +94,4 @@ pub fn read(rt: &impl Input, words: &mut [i32]) -> usize
 pub fn is_at_end(rt: &impl Input) -> bool {
     let mut byte = [0u8; 1];
     matches!(rt.reader().read(&mut byte), Ok(0))
-}
-
-pub fn expect_end(rt: &(impl Eprint + Input)) {
-    if !is_at_end(rt) {
-        said::text(rt, "the input goes on after the last residual\n");
-    }
 }

@@ -7,161 +7,154 @@
 // lines promise, so that whoever opens it is told too.
 #![tactic(auto)]
 
-ghost use Rattle.std.specs.Prelude.{true, ◌≡◌};
+ghost use Rattle.std.specs.Prelude.{true, ◌≡◌, ◌*◌, ◌≤◌};
 ghost use Rattle.unpack.specs.Room.{has_room};
 
 mod channel;
+mod fault;
 mod input;
 mod output;
 mod packed;
 mod said;
 mod tree;
 
-use channel::Stop;
+use fault::Fault;
 use output::Form;
-use packed::{Packed, ReadPacked};
-use session::{OpenAnswer, Session};
-use tree::Flattening;
+use packed::Packed;
+use session::Session;
+use std::env::Env;
 
-// Tells what is not as it should be.
-fn tell(
-    rt: &(impl Eprint + Input),
-    stop: Stop,
-    got: usize,
-    pixels: usize,
-    done: usize,
-    rows: usize,
-) {
-    said::stopped(rt, stop);
-    if got < pixels {
-        said::cut_short(rt, "residuals", got, pixels);
-    } else {
-        input::expect_end(rt);
-    }
-    if done < rows {
-        said::rows_written(rt, done, rows);
-    }
+// How many rows are finished.
+fn whole_rows(done: usize, width: usize) -> usize
+    ensures { result * width ≤ done }
+{
+    if width == 0 { 0 } else { done / width }
 }
 
-// The residuals, unpacked where they stand, and the finished rows written.
+// The residuals, unpacked where they stand, and the finished rows written; what is not as it should be is told.
 fn unpack(
     rt: &(impl Eprint + Input + Print),
-    packed: Packed,
+    packed: &Packed,
     form: Form,
-    session: Session,
+    session: &mut Session,
     records: &[i32],
     plane: &mut [i32],
     cells: &mut [i32],
     memory: &mut [u32],
 ) {
     let got = input::read(rt, plane);
-    let ended = channel::unpack(session, got, records, plane, cells, memory);
-    let done = channel::whole_rows(ended.done, packed.width);
-    output::write(rt, form, packed.width, packed.rows, done, plane);
-    let stop = ended.stop;
-    tell(rt, stop, got, plane.len(), done, packed.rows);
+    let unpacked = channel::unpack(session, got, records, plane, cells, memory);
+    let done = match unpacked {
+        Ok(()) => got,
+        Err(stopped) => stopped.done,
+    };
+    let rows = whole_rows(done, packed.width);
+    if output::write(rt, form, packed.width, packed.rows, rows, plane).is_err() {
+        said::unwritten(rt);
+    }
+    if let Err(stopped) = unpacked {
+        said::refused(rt, stopped.refusal);
+    }
+    if got < plane.len() {
+        said::cut_short(rt, "residuals", got, plane.len());
+    } else if !input::is_at_end(rt) {
+        said::goes_on(rt);
+    }
+    if rows < packed.rows {
+        said::rows_written(rt, rows, packed.rows);
+    }
 }
 
 // With cells for every property, the largest of which is 255, and memory for the widest row.
-fn open(
+fn with_records(
     rt: &(impl Eprint + Input + Print),
-    packed: Packed,
+    packed: &Packed,
     form: Form,
     mask: u32,
     records: &[i32],
     plane: &mut [i32],
-) {
+) -> Result<(), Fault> {
     let mut cells = [0i32; 256];
     let mut memory = [0u32; 163860];
-    let header = packed.header;
-    let opened = Session::open(
+    let mut session = Session::open(
         packed.width,
-        header,
+        packed.header,
         packed.weights,
         mask,
         packed.channel,
         packed.stream,
         &mut cells,
         &mut memory,
+    )?;
+    unpack(
+        rt,
+        packed,
+        form,
+        &mut session,
+        records,
+        plane,
+        &mut cells,
+        &mut memory,
     );
-    match opened {
-        OpenAnswer::Refused(refusal) => said::refused(rt, refusal),
-        OpenAnswer::Is(session) => unpack(
-            rt,
-            packed,
-            form,
-            session,
-            records,
-            plane,
-            &mut cells,
-            &mut memory,
-        ),
-    }
+    Ok(())
 }
 
 // The tree, which is read, validated and flattened before any pixel.
-fn flatten(
+fn with_nodes(
     rt: &(impl Eprint + Input + Print),
-    packed: Packed,
+    packed: &Packed,
     form: Form,
     nodes: &mut [i32],
     records: &mut [i32],
     plane: &mut [i32],
-) {
+) -> Result<(), Fault> {
     let got = input::read(rt, nodes);
     if got < nodes.len() {
-        said::cut_short(rt, "words of nodes", got, nodes.len());
-        return;
+        return Err(Fault::NodesCutShort {
+            got,
+            all: nodes.len(),
+        });
     }
-    let flattened = tree::flatten(nodes, records);
-    match flattened {
-        Flattening::Refused(refusal) => said::refused(rt, refusal),
-        Flattening::Is(flat) => {
-            let words = flat.words;
-            open(rt, packed, form, flat.mask, &records[0..words], plane)
-        }
-    }
+    let flat = tree::flatten(nodes, records)?;
+    with_records(rt, packed, form, flat.mask, &records[..flat.words], plane)
 }
 
-fn with_tree(rt: &(impl Eprint + Input + Print), packed: Packed, form: Form, plane: &mut [i32])
-    requires { has_room packed ≡ true }
+fn with_tree(
+    rt: &(impl Eprint + Input + Print),
+    packed: &Packed,
+    form: Form,
+    plane: &mut [i32],
+) -> Result<(), Fault>
+    requires { has_room packed.now ≡ true }
 {
     let mut nodes = [0i32; 40955];
     let mut records = [0i32; 98286];
     let words = 5 * packed.nodes;
-    flatten(rt, packed, form, &mut nodes[0..words], &mut records, plane);
+    with_nodes(rt, packed, form, &mut nodes[0..words], &mut records, plane)
 }
 
 // All that is lent lies on the stack: some 5.5 MB of the 8 that a process has where nothing else is set.
-fn with_plane(rt: &(impl Eprint + Input + Print), packed: Packed, form: Form)
-    requires { has_room packed ≡ true }
+fn with_plane(rt: &(impl Eprint + Input + Print), packed: &Packed, form: Form) -> Result<(), Fault>
+    requires { has_room packed.now ≡ true }
 {
     let mut plane = [0i32; 1048576];
     let pixels = packed.rows * packed.width;
-    with_tree(rt, packed, form, &mut plane[0..pixels]);
+    with_tree(rt, packed, form, &mut plane[0..pixels])
 }
 
-fn check(rt: &(impl Eprint + Input + Print), packed: Packed, form: Form) {
-    if packed.fits() {
-        with_plane(rt, packed, form);
-    } else {
-        said::too_large(rt);
+fn run(rt: &(impl Env + Eprint + Input + Print)) -> Result<(), Fault> {
+    let Some(form) = output::wanted(rt) else {
+        return Err(Fault::Usage);
+    };
+    let packed = packed::read(rt)?;
+    if !packed.fits() {
+        return Err(Fault::TooLarge);
     }
-}
-
-fn begin(rt: &(impl Eprint + Input + Print), form: Form) {
-    let read = packed::read(rt);
-    match read {
-        ReadPacked::Is(packed) => check(rt, packed, form),
-        ReadPacked::CutShort(got) => said::cut_short(rt, "words of the header", got, 17),
-        ReadPacked::Weights(word) => said::no_such_weights(rt, word),
-    }
+    with_plane(rt, &packed, form)
 }
 
 fn main(rt: HostRuntime) {
-    let form = output::wanted(&rt);
-    match form {
-        Form::Neither => said::usage(&rt),
-        _ => begin(&rt, form),
+    if let Err(fault) = run(&rt) {
+        said::fault(&rt, fault);
     }
 }

@@ -4,25 +4,23 @@ ghost use Rattle.std.specs.Prelude.{◌≡◌, ◌+◌, ◌*◌, ◌%◌, ◌≤
 ghost use Rattle.integer.specs.Fill.{tabulate};
 ghost use Rattle.unpack.specs.Bytes.{sample_of, word_byte, sample_byte, byte_of, size_of};
 
-use crate::said;
 use integer::to_bits;
 use std::env::FillError;
+use std::io;
 use std::rt::Env;
 
-#[derive(Drop)]
+#[derive(Clone, Copy, Debug, PartialEq, Eq)]
 pub enum Form {
     Words,
     Picture,
-    // an argument that names no form
-    Neither,
 }
 
-// By the program's argument: none, or `pgm`.
-pub fn wanted(rt: &impl Env) -> Form {
+// By the program's argument: none, or `pgm`. Another names no form.
+pub fn wanted(rt: &impl Env) -> Option<Form> {
     let mut name = [0u8; 4];
     match rt.arg(1, &mut name) {
-        Err(FillError::NotPresent) => Form::Words,
-        Err(FillError::TooLong) => Form::Neither,
+        Err(FillError::NotPresent) => Some(Form::Words),
+        Err(FillError::TooLong) => None,
         Ok(n) => named(&name[..n], has_one_argument(rt)),
     }
 }
@@ -33,11 +31,11 @@ fn has_one_argument(rt: &impl Env) -> bool {
 }
 
 // The form that an argument names, if it is the only one.
-fn named(name: &[u8], alone: bool) -> Form {
-    if alone && name.len() == 3 && name[0] == b'p' && name[1] == b'g' && name[2] == b'm' {
-        Form::Picture
+fn named(name: &[u8], alone: bool) -> Option<Form> {
+    if alone && name == b"pgm".as_slice() {
+        Some(Form::Picture)
     } else {
-        Form::Neither
+        None
     }
 }
 
@@ -103,29 +101,9 @@ fn put_bytes(plane: &[i32], picture: bool, from: usize, bytes: &mut [u8])
     requires { from + length bytes.old ≤ size_of picture (length plane.now) }
     ensures { bytes.new ≡ tabulate (λ i. byte_of picture plane.now (from + i)) (length bytes.old) }
 {
-    let mut i = 0;
-    while i < bytes.len() {
+    for i in 0..bytes.len() {
         bytes[i] = byte_of(plane, from + i, picture);
-        i += 1;
     }
-}
-
-fn write_part(rt: &impl Print, plane: &[i32], picture: bool, from: usize, bytes: &mut [u8]) -> bool
-    requires { from + length bytes.old ≤ size_of picture (length plane.now) }
-{
-    put_bytes(plane, picture, from, bytes);
-    rt.write_all(bytes).is_ok()
-}
-
-// At most a buffer full. Answers whether it was written.
-fn write_some(rt: &impl Print, plane: &[i32], picture: bool, from: usize, left: usize) -> bool
-    requires { from + left ≤ size_of picture (length plane.now) }
-{
-    let mut buffer = [0u8; 65536];
-    if left < 65536 {
-        return write_part(rt, plane, picture, from, &mut buffer[0..left]);
-    }
-    write_part(rt, plane, picture, from, &mut buffer)
 }
 
 // How many bytes the plane is.
@@ -139,57 +117,36 @@ fn size(plane: &[i32], picture: bool) -> usize
     }
 }
 
-fn write_plane(rt: &impl Print, plane: &[i32], picture: bool) -> bool {
+fn write_plane(rt: &impl Print, plane: &[i32], picture: bool) -> io::Result<()> {
+    let mut buffer = [0u8; 65536];
     let size = size(plane, picture);
     let mut from = 0;
     while from < size {
-        if !write_some(rt, plane, picture, from, size - from) {
-            return false;
-        }
-        if size - from < 65536 {
-            return true;
-        }
-        from += 65536;
+        let n = (size - from).min(65536);
+        put_bytes(plane, picture, from, &mut buffer[..n]);
+        rt.write_all(&buffer[..n])?;
+        from += n;
     }
-    true
-}
-
-fn first_lines(rt: &impl Print, width: usize, rows: usize) -> bool {
-    if rt.print("P5\n").is_err() {
-        return false;
-    }
-    let _ = rt.print(width);
-    let _ = rt.print(" ");
-    let _ = rt.print(rows);
-    rt.print("\n65535\n").is_ok()
-}
-
-fn write_rows(rt: &impl Print, form: Form, width: usize, rows: usize, plane: &[i32]) -> bool {
-    match form {
-        Form::Picture => {
-            if first_lines(rt, width, rows) {
-                write_plane(rt, plane, true)
-            } else {
-                false
-            }
-        }
-        _ => write_plane(rt, plane, false),
-    }
+    Ok(())
 }
 
 // The finished rows; for a picture after the lines that promise all of them.
 pub fn write(
-    rt: &(impl Eprint + Print),
+    rt: &impl Print,
     form: Form,
     width: usize,
     rows: usize,
     done: usize,
     plane: &[i32],
-)
+) -> io::Result<()>
     requires { done * width ≤ length plane.now }
 {
-    let words = done * width;
-    if !write_rows(rt, form, width, rows, &plane[0..words]) {
-        said::text(rt, "standard output cannot be written\n");
+    let words = &plane[..done * width];
+    match form {
+        Form::Words => write_plane(rt, words, false),
+        Form::Picture => {
+            print!(rt; "P5\n{width} {rows}\n65535\n")?;
+            write_plane(rt, words, true)
+        }
     }
 }

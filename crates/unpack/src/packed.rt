@@ -2,11 +2,12 @@
 ghost use Rattle.std.specs.Prelude.{◌≡◌, ◌≤◌, length};
 ghost use Rattle.unpack.specs.Room.{has_room};
 
+use crate::fault::Fault;
 use crate::input;
 use blend::WeightedHeader;
 use integer::to_bits;
 
-#[derive(Clone, Copy)]
+#[derive(Clone, Copy, Debug, PartialEq, Eq)]
 pub struct Packed {
     pub width: usize,
     pub rows: usize,
@@ -15,15 +16,6 @@ pub struct Packed {
     pub channel: i32,
     pub stream: i32,
     pub nodes: usize,
-}
-
-#[derive(Drop)]
-pub enum ReadPacked {
-    Is(Packed),
-    // so many words came
-    CutShort(usize),
-    // weights that are neither on nor off
-    Weights(u32),
 }
 
 fn header_of(words: &[i32]) -> WeightedHeader
@@ -58,41 +50,28 @@ fn packed_of(words: &[i32]) -> Packed
     }
 }
 
-fn read_into(rt: &impl Input, words: &mut [i32]) -> ReadPacked
-    requires { 17 ≤ length words.old }
-{
-    let got = input::read(rt, words);
+pub fn read(rt: &impl Input) -> Result<Packed, Fault> {
+    let mut words = [0i32; 17];
+    let got = input::read(rt, &mut words);
     if got < 17 {
-        return ReadPacked::CutShort(got);
+        return Err(Fault::HeaderCutShort { got });
     }
     let weights = to_bits(words[13]);
     if 1 < weights {
-        return ReadPacked::Weights(weights);
+        return Err(Fault::Weights(weights));
     }
-    ReadPacked::Is(packed_of(words))
-}
-
-pub fn read(rt: &impl Input) -> ReadPacked {
-    let mut words = [0i32; 17];
-    read_into(rt, &mut words)
+    Ok(packed_of(&words))
 }
 
 impl Packed {
     // Whether the program has room for it: 1,048,576 pixels, a width of 16,384, and 8,191 nodes.
-    pub fn fits(self) -> bool
-        ensures { result ≡ has_room self }
+    #[tactic(auto, unfolding(crate::specs::Room::has_room))]
+    pub fn fits(&self) -> bool
+        ensures { result ≡ has_room self.now }
     {
-        let width = self.width;
-        let rows = self.rows;
-        if 16384 < width {
-            return false;
-        }
-        if 1048576 < rows {
-            return false;
-        }
-        if 1048576 < rows * width {
-            return false;
-        }
-        self.nodes <= 8191
+        self.width <= 16384
+            && self.rows <= 1048576
+            && self.rows * self.width <= 1048576
+            && self.nodes <= 8191
     }
 }

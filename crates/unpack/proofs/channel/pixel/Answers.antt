@@ -1,10 +1,6 @@
--- `pixel` meets its contract: with an ask that answered, the put's promise says the rest.
-use Rattle.std.proofs.Common.{rules}
-use Rattle.unpack.proofs.Turn.{goes}
+-- `pixel` meets its contract: a put that is refused leaves the plane.
+use Rattle.unpack.proofs.Turn.{stays}
 use Rattle.unpack.proofs.channel.pixel.Goals as goal
 
-pub returns-in-Is : goal.returns-in-Is
-returns-in-Is c =
-    goes c.args.session c.args.plane.now c.args.cells.now c.args.memory.now c.args.records.now c.args.k c.ask-asked.ensures c.in-Is.is
-    (search rules)
-    c.put.ensures
+pub returns-clause-stays : goal.returns-clause-stays
+returns-clause-stays c = stays c.put.result _ _ _ _ c.put.ensures.answers c.put.ensures.plane_is

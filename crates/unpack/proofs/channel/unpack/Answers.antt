@@ -12,15 +12,13 @@ loop-k-init c = record { within = omega arith; at = refl; plane_long = refl; cel
 
 pub loop-k-preserved : goal.loop-k-preserved
 loop-k-preserved c =
-    let opened : Before = record { session = c.args.opened; plane = c.args.plane.now; cells = c.args.cells.now; memory = c.args.memory.now } in
-    let plane_kept : length c.pixel-answer.new.plane ≡ length c.args.plane.now = omega (arith, c.loop-k.invariant.plane_long) in
-    let cells_kept : length c.pixel-answer.new.cells ≡ length c.args.cells.now = omega (arith, c.loop-k.invariant.cells_long) in
-    let memory_kept : length c.pixel-answer.new.memory ≡ length c.args.memory.now = omega (arith, c.loop-k.invariant.memory_long) in
+    let first : Before = record { session = c.args.session.now; plane = c.args.plane.now; cells = c.args.cells.now; memory = c.args.memory.now } in
+    let plane_kept : length c.pixel.new.plane ≡ length c.args.plane.now = omega (arith, c.loop-k.invariant.plane_long) in
+    let cells_kept : length c.pixel.new.cells ≡ length c.args.cells.now = omega (arith, c.loop-k.invariant.cells_long) in
+    let memory_kept : length c.pixel.new.memory ≡ length c.args.memory.now = omega (arith, c.loop-k.invariant.memory_long) in
     record {
       within = omega (arith, c.loop-k-test.true);
-      at =
-          next_step c.args.records.now c.loop-k.k opened c.loop-k.invariant.at
-          (c.pixel-answer.ensures.goes_on c.in-Done.next c.in-Done.is);
+      at = next_step c.args.records.now c.loop-k.k first c.loop-k.invariant.at (c.pixel.ensures.goes_on c.in_default.is);
       plane_long = plane_kept;
       cells_long = cells_kept;
       memory_long = memory_kept;

@@ -8,7 +8,7 @@ use Rattle.unpack.proofs.Sizes.{size_most}
 use Rattle.unpack.proofs.output.put_bytes.Goals as goal
 
 pub loop-i-init : goal.loop-i-init
-loop-i-init c = (omega arith, sym (filled_none _ _))
+loop-i-init c = sym (filled_none _ _)
 
 pub overflow_add-from : goal.overflow_add-from
 overflow_add-from c = omega (arith, c.requires, c.well_formed, size_most c.args.picture (length c.args.plane.now))
@@ -16,4 +16,4 @@ overflow_add-from c = omega (arith, c.requires, c.well_formed, size_most c.args.
 pub loop-i-preserved : goal.loop-i-preserved
 loop-i-preserved c =
     let below : c.loop-i.i < length c.args.bytes.now = omega arith in
-    (omega arith, rw (c.byte_of.ensures, c.loop-i.invariant.1) (filled_more _ _ _ below))
+    rw (c.byte_of.ensures, c.loop-i.invariant) (filled_more _ _ _ below)

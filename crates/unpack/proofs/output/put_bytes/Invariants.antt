@@ -1,13 +1,9 @@
 -- i bytes are written, the rest are as they were.
-use lib.ListN.{length}
 use mathlib.Core.Path.{◌≡◌}
-use Prim.Native.Nat.{◌+◌, ◌-◌, ◌≤◌}
+use Prim.Native.Nat.{◌+◌}
 use Rattle.integer.specs.Fill.{filled}
 use Rattle.unpack.specs.Bytes.{byte_of}
 use Rattle.unpack.proofs.output.put_bytes.Given as goal
 
 abbrev pub invariant-loop-i : goal.invariant-loop-i
-invariant-loop-i l = (l.i ≤ length l.initial.bytes) × (l.bytes ≡ filled (λ k. byte_of l.picture l.plane (l.from + k)) l.i l.initial.bytes)
-
-abbrev pub decreases-loop-i : goal.decreases-loop-i
-decreases-loop-i l = length l.initial.bytes - l.i
+invariant-loop-i l = l.bytes ≡ filled (λ k. byte_of l.picture l.plane (l.from + k)) l.i l.fn.bytes

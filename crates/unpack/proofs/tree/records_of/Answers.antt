@@ -1,8 +1,8 @@
 -- `records_of` meets its contract: the output has as many words as before, and its first ones are the records.
 use borrow.Author.Rules.{rules}
 use borrow.Author.Tests.{eq-eqb}
-use lib.IntN.{ℤ}
-use lib.ListN.{length, drop, length-append}
+use lib.IntN.{ℤ, pos}
+use lib.ListN.{length, drop, length-append, replicate, length-replicate}
 use mathlib.Core.List.{List, ◌++◌}
 use mathlib.Core.Path.{◌≡◌, sym, ap, ◌∙◌}
 use native.Mathlib.Decide.{dec_lt}
@@ -10,41 +10,43 @@ use native.Mathlib.Omega.{arith}
 use Prim.Native.Nat.{ℕ, ◌*◌, ◌≤◌, ◌<◌}
 use Rattle.flatten.proofs.Answered.{answered_shape, answered_count}
 use Rattle.flatten.proofs.Flat.{words_long}
-use Rattle.flatten.specs.Flatten.{output_after, Flattens}
+use Rattle.flatten.specs.Flatten.{flattening, output_after}
 use Rattle.flatten.specs.Records.{record_words}
-use Rattle.flatten.specs.declared.Flattened.{Flattened}
-use Rattle.flatten.specs.declared.Flattened.TheVariants.{Records, Refused}
 use Rattle.refusal.proofs.Outcomes.{same_given}
-use Rattle.refusal.specs.Paper.{Outcome}
+use Rattle.refusal.specs.Paper.{Outcome, gives, said}
+use Rattle.refusal.specs.declared.Refusal.{Refusal}
+use Rattle.std.specs.Prelude.{Result, Ok, Err, IfOk}
 use Rattle.validation.proofs.Sound.{both_given}
 use Rattle.validation.proofs.ToDo.{nodes, sound_list}
 use Rattle.validation.specs.Shape.{shape}
-use Rattle.unpack.specs.Tree.{records_in}
 use Rattle.unpack.proofs.tree.records_of.Goals as goal
 
-module _ {words ring output ring' output' : List ℤ} (kept : length output' ≡ length output) where
-  module _ {count : ℕ} (told : Flattens words ring output (Records count) ring' output') where
+module _ (words : List ℤ) (room : ℕ) (output output' : List ℤ) (kept : length output' ≡ length output) where
+  module _ {count : ℕ} (answers : gives count ≡ flattening words room (length output))
+      (writes : output' ≡ output_after (flattening words room (length output)) words output) where
     -- no nodes, no records
     none : length words ≡ 0 → count ≡ 0
     none e =
         let empty = eq-eqb (length words) 0 e in
-        sym (same_given (rw empty at (both_given (shape words) _ (sym told.answers)).1))
+        sym (same_given (rw empty at (both_given (shape words) _ (sym answers)).1))
 
     some : 0 < length words → 6 * count ≤ length output
     some h =
-        let sound = sound_list words (answered_shape told h, h) in
-        let long = words_long words (nodes words) sound.shaped sound.some count (omega (arith, answered_count told h)) in
-        let written : output' ≡ record_words words count ++ drop (6 * count) output = told.writes ∙ ap (λ (o : Outcome ℕ). output_after o words output) (sym told.answers) in
+        let lent : List ℤ = replicate room (pos 0) in
+        let told : gives count ≡ flattening words (length lent) (length output) = answers ∙ ap (λ (n : ℕ). flattening words n (length output)) (sym (length-replicate room (pos 0))) in
+        let sound = sound_list words (answered_shape words lent output told h, h) in
+        let long = words_long words (nodes words) sound.shaped sound.some count (omega (arith, answered_count words lent output told h)) in
+        let written : output' ≡ record_words words count ++ drop (6 * count) output = writes ∙ ap (λ (o : Outcome ℕ). output_after o words output) (sym answers) in
         omega (arith, kept, long, ap length written, length-append (record_words words count) (drop (6 * count) output))
 
     by : Dec (0 < length words) → 6 * count ≤ length output
     by (yes h) = some h
     by (no h) = omega (arith, none (omega arith))
 
-  fit : (r : Flattened) → Flattens words ring output r ring' output' → 6 * records_in r ≤ length output
-  fit (Records count) told = by told (dec_lt 0 (length words))
-  fit (Refused refusal) told = omega arith
+  fit : (r : Result ℕ Refusal) → said r ≡ flattening words room (length output) → output' ≡ output_after (flattening words room (length output)) words output
+      → IfOk r (λ count. 6 * count ≤ length output)
+  fit (Ok count) answers writes = by answers writes (dec_lt 0 (length words))
+  fit (Err refusal) answers writes = tt
 
-pub returns : goal.returns
-returns c =
-    record { answers = c.build_flat_tree.ensures.answers; within = fit (search rules) c.build_flat_tree.result c.build_flat_tree.ensures }
+pub returns-clause-within : goal.returns-clause-within
+returns-clause-within c = fit c.args.nodes.now 8192 c.args.records.now _ (search rules) c.build_flat_tree.result c.build_flat_tree.ensures.answers c.build_flat_tree.ensures.writes
