@@ -6,8 +6,8 @@ ghost use Rattle.std.specs.Prelude.{◌≡◌, length, ◌≤◌};
 ghost use Rattle.integer.specs.Fill.{filled};
 ghost use Rattle.bench.specs.Guesses.{guess_at, GuessesRow};
 
-use predict::neighbours::{Neighbourhood, get_rows, in_domain};
-use predict::predictors::{Numbered, Predictor};
+use predict::neighbours::{get_rows, in_domain};
+use predict::predictors::Predictor;
 
 // The guess at column x, 0 where the neighbours are refused.
 fn guess_at(
@@ -21,10 +21,9 @@ fn guess_at(
 ) -> i64
     ensures { result ≡ guess_at row.now top.now toptop.now y predictor wp_pred x }
 {
-    let found = get_rows(row, top, toptop, x, y);
-    match found {
-        Neighbourhood::Is(data) => predictor.predict_one(data, wp_pred),
-        Neighbourhood::Refused(_) => 0,
+    match get_rows(row, top, toptop, x, y) {
+        Ok(data) => predictor.predict_one(data, wp_pred),
+        Err(_) => 0,
     }
 }
 
@@ -41,10 +40,8 @@ fn guess_all(
     requires { length row.now ≤ length guesses.old }
     ensures { guesses.new ≡ filled (guess_at row.now top.now toptop.now y predictor wp_pred) (length row.now) guesses.old }
 {
-    let mut x = 0;
-    while x < row.len() {
+    for x in 0..row.len() {
         guesses[x] = guess_at(row, top, toptop, x, y, predictor, wp_pred);
-        x += 1;
     }
 }
 
@@ -61,19 +58,15 @@ pub extern "C" fn matuviso_guess_row(
 ) -> u32
     ensures { GuessesRow row.now top.now toptop.now y p wp_pred guesses.old result guesses.new }
 {
-    if in_domain(row, top, toptop, 0, y) {
-        let named = Predictor::try_from(p);
-        match named {
-            Numbered::Is(predictor) => {
-                if guesses.len() < row.len() {
-                    return 8;
-                }
-                guess_all(row, top, toptop, y, predictor, wp_pred, guesses);
-                0
-            }
-            Numbered::NoSuch => 3,
-        }
-    } else {
-        11
+    if !in_domain(row, top, toptop, 0, y) {
+        return 11;
     }
+    let Ok(predictor) = Predictor::try_from(p) else {
+        return 3;
+    };
+    if guesses.len() < row.len() {
+        return 8;
+    }
+    guess_all(row, top, toptop, y, predictor, wp_pred, guesses);
+    0
 }

@@ -2,22 +2,22 @@
 // that a walk has one caller and is compiled into its loop, as it is in a program that unpacks a scan.
 #![tactic(auto)]
 
-ghost use Rattle.std.specs.Prelude.{◌≡◌, length, ◌+◌, ◌*◌, ◌≤◌};
-ghost use Rattle.bench_flat.specs.Pixels.{guess_of, direct_at, flat_at, GuessesPixels};
-ghost use Rattle.integer.specs.Fill.{filled};
-ghost use Rattle.walk.specs.Walk.{said};
+ghost use Rattle.std.specs.Prelude.{◌≡◌, length, ℕ, ◌+◌, ◌*◌, ◌≤◌, ◌<◌, pos, get_or, EachIndex};
+ghost use Rattle.bench_flat.specs.Pixels.{guess_of, direct_at, flat_at, too_few, GuessesPixels};
+ghost use Rattle.refusal.specs.Paper.{said};
 
 use flat::predict_flat;
+use refusal::Refusal;
 use told::take_seven;
-use walk::{Walked, predict};
+use walk::{PredictionResult, predict};
 
 // A walk's guess, 0 where it is refused.
-fn guess_of(walked: Walked) -> i64
+fn guess_of(walked: Result<PredictionResult, Refusal>) -> i64
     ensures { result ≡ guess_of (said walked) }
 {
     match walked {
-        Walked::Is(result) => result.guess,
-        Walked::Refused(_) => 0,
+        Ok(result) => result.guess,
+        Err(_) => 0,
     }
 }
 
@@ -41,26 +41,20 @@ fn flat_at(words: &[i32], cells: &[i32], data: &[i32], wp_pred: i64, k: usize) -
 }
 
 // A guess for each pixel.
-fn direct_all(words: &[i32], cells: &[i32], data: &[i32], wp_pred: i64, guesses: &mut [i64])
-    requires { (16 * length guesses.old ≤ length cells.now) × (7 * length guesses.old ≤ length «data».now) }
-    ensures { guesses.new ≡ filled (direct_at words.now cells.now «data».now wp_pred) (length guesses.old) guesses.old }
+fn guess_all<F: Fn(usize) -> i64>(guesses: &mut [i64], guess: F)
+    requires { (k : ℕ) → k < length guesses.old → F.pre guess k }
+    ensures { EachIndex guesses.new (λ k. F.post guess k (get_or guesses.new k (pos 0))) }
 {
-    let mut k = 0;
-    while k < guesses.len() {
-        guesses[k] = direct_at(words, cells, data, wp_pred, k);
-        k += 1;
+    for k in 0..guesses.len() {
+        guesses[k] = guess(k);
     }
 }
 
-fn flat_all(words: &[i32], cells: &[i32], data: &[i32], wp_pred: i64, guesses: &mut [i64])
-    requires { (16 * length guesses.old ≤ length cells.now) × (7 * length guesses.old ≤ length «data».now) }
-    ensures { guesses.new ≡ filled (flat_at words.now cells.now «data».now wp_pred) (length guesses.old) guesses.old }
+// Whether cells or neighbours are too few for the guesses that there is room for.
+fn too_few(cells: &[i32], data: &[i32], guesses: &[i64]) -> bool
+    ensures { result ≡ too_few (length cells.now) (length «data».now) (length guesses.now) }
 {
-    let mut k = 0;
-    while k < guesses.len() {
-        guesses[k] = flat_at(words, cells, data, wp_pred, k);
-        k += 1;
-    }
+    cells.len() / 16 < guesses.len() || data.len() / 7 < guesses.len()
 }
 
 // The direct walk's guesses, as many as there is room for: 8 where cells or neighbours are too few for that.
@@ -74,13 +68,10 @@ pub extern "C" fn matuviso_walk_pixels(
 ) -> u32
     ensures { GuessesPixels (direct_at words.now cells.now «data».now wp_pred) (length cells.now) (length «data».now) guesses.old result guesses.new }
 {
-    if cells.len() / 16 < guesses.len() {
+    if too_few(cells, data, guesses) {
         return 8;
     }
-    if data.len() / 7 < guesses.len() {
-        return 8;
-    }
-    direct_all(words, cells, data, wp_pred, guesses);
+    guess_all(guesses, |k| direct_at(words, cells, data, wp_pred, k));
     0
 }
 
@@ -95,12 +86,9 @@ pub extern "C" fn matuviso_walk_flat_pixels(
 ) -> u32
     ensures { GuessesPixels (flat_at words.now cells.now «data».now wp_pred) (length cells.now) (length «data».now) guesses.old result guesses.new }
 {
-    if cells.len() / 16 < guesses.len() {
+    if too_few(cells, data, guesses) {
         return 8;
     }
-    if data.len() / 7 < guesses.len() {
-        return 8;
-    }
-    flat_all(words, cells, data, wp_pred, guesses);
+    guess_all(guesses, |k| flat_at(words, cells, data, wp_pred, k));
     0
 }

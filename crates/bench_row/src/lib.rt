@@ -2,18 +2,26 @@
 // `unpack_row`, ask and put have one caller each and are compiled into its loop, as they are in a program that unpacks a scan by rows.
 #![tactic(auto)]
 
-ghost use Rattle.std.specs.Prelude.{length, ◌*◌, ◌≤◌};
-ghost use Rattle.bench_row.specs.Run.{Ends, channel, rows_from};
+ghost use Rattle.std.specs.Prelude.{length, ◌≤◌};
+ghost use Rattle.refusal.specs.Paper.{said};
+ghost use Rattle.told.specs.Channel.{Ends};
+ghost use Rattle.told.specs.Told.{done_or};
+ghost use Rattle.bench_row.specs.Run.{channel, opened};
 
+use blend::WeightedHeader;
 use lab_weighted::header_of;
-use row::{RowAnswer, unpack_row};
-use session::{OpenAnswer, Session};
+use refusal::Refusal;
+use row::unpack_row;
+use session::Session;
 
-// So many rows, one list of references for all; the first refusal ends it, and its number is told.
+// Opening, then each whole row, one list of references for all; the first refusal ends it.
 fn run(
-    opened: Session,
     width: usize,
-    rows: usize,
+    header: WeightedHeader,
+    weights: bool,
+    mask: u32,
+    number: i32,
+    stream: i32,
     references: &[i32],
     records: &[i32],
     residuals: &[i32],
@@ -21,17 +29,16 @@ fn run(
     contexts: &mut [u32],
     cells: &mut [i32],
     memory: &mut [u32],
-) -> u32
-    requires { (rows * width ≤ length residuals.now) × (length residuals.now ≤ length contexts.old) }
-    ensures { Ends (rows_from width references.now records.now residuals.now rows 0 opened plane.old contexts.old cells.old memory.old) result plane.new contexts.new cells.new memory.new }
+) -> Result<(), Refusal>
+    requires { length residuals.now ≤ length contexts.old }
+    ensures { Ends (opened width references.now records.now residuals.now header weights mask number stream plane.old contexts.old cells.old memory.old) (done_or (said result)) plane.new contexts.new cells.new memory.new }
 {
-    let mut session = opened;
-    let mut y = 0;
-    while y < rows {
+    let mut session = Session::open(width, header, weights, mask, number, stream, cells, memory)?;
+    for y in 0..residuals.len() / width {
         let from = y * width;
         let end = from + width;
-        let row = unpack_row(
-            session,
+        if let Err(stopped) = unpack_row(
+            &mut session,
             &residuals[from..end],
             references,
             records,
@@ -39,23 +46,15 @@ fn run(
             &mut contexts[from..end],
             cells,
             memory,
-        );
-        match row {
-            RowAnswer::Done(next) => {
-                session = next;
-            }
-            RowAnswer::Refused(halted) => {
-                let refusal = halted.refusal;
-                return refusal.number();
-            }
+        ) {
+            return Err(stopped.refusal);
         }
-        y += 1;
     }
-    0
+    Ok(())
 }
 
-// A channel from the whole rows of its residuals: 8 where the header or the contexts have too few words, else as opening and then each
-// row is.
+// A channel from the whole rows of its residuals: 8 where the header or the contexts have too few words, else 0 or the number of the
+// first refusal.
 #[unsafe(no_mangle)]
 pub extern "C" fn matuviso_run_rows(
     width: usize,
@@ -74,22 +73,15 @@ pub extern "C" fn matuviso_run_rows(
 ) -> u32
     ensures { Ends (channel width references.now records.now residuals.now header.now weights mask number stream plane.old contexts.old cells.old memory.old) result plane.new contexts.new cells.new memory.new }
 {
-    if header.len() < 11 {
-        return 8;
-    }
-    if contexts.len() < residuals.len() {
+    if header.len() < 11 || contexts.len() < residuals.len() {
         return 8;
     }
     let known = header_of(header);
-    let opened = Session::open(width, known, weights, mask, number, stream, cells, memory);
-    match opened {
-        OpenAnswer::Is(session) => {
-            let rows = residuals.len() / width;
-            run(
-                session, width, rows, references, records, residuals, plane, contexts, cells,
-                memory,
-            )
-        }
-        OpenAnswer::Refused(refusal) => refusal.number(),
+    match run(
+        width, known, weights, mask, number, stream, references, records, residuals, plane,
+        contexts, cells, memory,
+    ) {
+        Ok(()) => 0,
+        Err(refusal) => refusal.number(),
     }
 }

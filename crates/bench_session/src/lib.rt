@@ -3,14 +3,24 @@
 #![tactic(auto)]
 
 ghost use Rattle.std.specs.Prelude.{length, ◌≤◌};
-ghost use Rattle.bench_session.specs.Run.{Ends, channel, run};
+ghost use Rattle.refusal.specs.Paper.{said};
+ghost use Rattle.told.specs.Channel.{Ends};
+ghost use Rattle.told.specs.Told.{done_or};
+ghost use Rattle.bench_session.specs.Run.{channel, opened};
 
+use blend::WeightedHeader;
 use lab_weighted::header_of;
-use session::{AskAnswer, OpenAnswer, PutAnswer, Session};
+use refusal::Refusal;
+use session::Session;
 
-// Ask and put of a pixel for each residual, one reference row for all; the first refusal ends it, and its number is told.
+// Opening, then ask and put of a pixel for each residual, one reference row for all; the first refusal ends it.
 fn run(
-    opened: Session,
+    width: usize,
+    header: WeightedHeader,
+    weights: bool,
+    mask: u32,
+    number: i32,
+    stream: i32,
     references: &[i32],
     records: &[i32],
     residuals: &[i32],
@@ -18,40 +28,19 @@ fn run(
     contexts: &mut [u32],
     cells: &mut [i32],
     memory: &mut [u32],
-) -> u32
+) -> Result<(), Refusal>
     requires { length residuals.now ≤ length contexts.old }
-    ensures { Ends (run references.now records.now residuals.now opened plane.old contexts.old cells.old memory.old) result plane.new contexts.new cells.new memory.new }
+    ensures { Ends (opened references.now records.now residuals.now width header weights mask number stream plane.old contexts.old cells.old memory.old) (done_or (said result)) plane.new contexts.new cells.new memory.new }
 {
-    let mut session = opened;
-    let mut k = 0;
-    while k < residuals.len() {
-        let asked = session.ask(plane, references, records, cells, memory);
-        match asked {
-            AskAnswer::Is(waiting) => {
-                let asking = waiting.session;
-                contexts[k] = waiting.context;
-                let put = asking.put(residuals[k], plane, memory);
-                match put {
-                    PutAnswer::Done(next) => {
-                        session = next;
-                    }
-                    PutAnswer::Refused(kept) => {
-                        let refusal = kept.refusal;
-                        return refusal.number();
-                    }
-                }
-            }
-            AskAnswer::Refused(kept) => {
-                let refusal = kept.refusal;
-                return refusal.number();
-            }
-        }
-        k += 1;
+    let mut session = Session::open(width, header, weights, mask, number, stream, cells, memory)?;
+    for k in 0..residuals.len() {
+        contexts[k] = session.ask(plane, references, records, cells, memory)?;
+        session.put(residuals[k], plane, memory)?;
     }
-    0
+    Ok(())
 }
 
-// A channel from its residuals: 8 where the header or the contexts have too few words, else as opening and then each pixel is.
+// A channel from its residuals: 8 where the header or the contexts have too few words, else 0 or the number of the first refusal.
 #[unsafe(no_mangle)]
 pub extern "C" fn matuviso_run_channel(
     width: usize,
@@ -70,18 +59,15 @@ pub extern "C" fn matuviso_run_channel(
 ) -> u32
     ensures { Ends (channel references.now records.now residuals.now width header.now weights mask number stream plane.old contexts.old cells.old memory.old) result plane.new contexts.new cells.new memory.new }
 {
-    if header.len() < 11 {
-        return 8;
-    }
-    if contexts.len() < residuals.len() {
+    if header.len() < 11 || contexts.len() < residuals.len() {
         return 8;
     }
     let known = header_of(header);
-    let opened = Session::open(width, known, weights, mask, number, stream, cells, memory);
-    match opened {
-        OpenAnswer::Is(session) => run(
-            session, references, records, residuals, plane, contexts, cells, memory,
-        ),
-        OpenAnswer::Refused(refusal) => refusal.number(),
+    match run(
+        width, known, weights, mask, number, stream, references, records, residuals, plane,
+        contexts, cells, memory,
+    ) {
+        Ok(()) => 0,
+        Err(refusal) => refusal.number(),
     }
 }

@@ -1,19 +1,13 @@
 -- A row of pixels: what `matuviso_fill_row` answers and writes, from the library's own definitions.
-use Rattle.std.specs.Prelude.{List, ◌≡◌, ℕ, zero, suc, ◌+◌, ◌*◌, ◌/◌, ℤ, pos, length, get_or}
+use Rattle.std.specs.Prelude.{List, ◌≡◌, ℕ, zero, suc, ◌+◌, ◌*◌, ◌/◌, ℤ, pos, length, drop}
 use Rattle.cells.specs.Cells.{outcome, filled_cells}
 use Rattle.predict.specs.declared.neighbours.PredictionData.{PredictionData}
 use Rattle.refusal.specs.Paper.{Outcome, gives, refuses, one_value}
+use Rattle.told.specs.Told.{data_of}
 
+-- seven words a pixel
 abbrev pub neighbours_of : List ℤ → ℕ → PredictionData
-neighbours_of d k = record {
-  left = get_or d (7 * k) (pos 0);
-  top = get_or d (7 * k + 1) (pos 0);
-  toptop = get_or d (7 * k + 2) (pos 0);
-  topleft = get_or d (7 * k + 3) (pos 0);
-  topright = get_or d (7 * k + 4) (pos 0);
-  leftleft = get_or d (7 * k + 5) (pos 0);
-  toprightright = get_or d (7 * k + 6) (pos 0);
-}
+neighbours_of d k = data_of (drop (7 * k) d)
 
 -- how a row ends: 0 or a refusal's number, and the cells
 pub record End : Type 0 where

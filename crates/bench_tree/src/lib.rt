@@ -2,30 +2,12 @@
 // that the filling has one caller and is compiled into its loop, as it is in a program that unpacks a scan.
 #![tactic(auto)]
 
-ghost use Rattle.std.specs.Prelude.{◌≡◌, length, ◌+◌, ◌*◌, ◌≤◌};
-ghost use Rattle.bench_tree.specs.Row.{neighbours_of, FillsRow};
+ghost use Rattle.bench_tree.specs.Row.{FillsRow};
 
-use cells::{Filled, compute_properties};
-use predict::neighbours::PredictionData;
+use cells::compute_properties;
+use told::take_seven;
 
-// The neighbours of pixel k, seven words a pixel.
-fn neighbours_of(data: &[i32], k: usize) -> PredictionData
-    requires { 7 * k + 7 ≤ length «data».now }
-    ensures { result ≡ neighbours_of «data».now k }
-{
-    let first = 7 * k;
-    PredictionData {
-        left: data[first],
-        top: data[first + 1],
-        toptop: data[first + 2],
-        topleft: data[first + 3],
-        topright: data[first + 4],
-        leftleft: data[first + 5],
-        toprightright: data[first + 6],
-    }
-}
-
-// The cells are filled for pixel after pixel, weighted prediction off; the first refusal ends the row, and its number is told.
+// The cells are filled for pixel after pixel, its neighbours seven words, weighted prediction off; the first refusal ends the row, and its number is told.
 #[unsafe(no_mangle)]
 pub extern "C" fn matuviso_fill_row(
     mask: u32,
@@ -37,16 +19,11 @@ pub extern "C" fn matuviso_fill_row(
     ensures { FillsRow mask y «data».now references.now cells.old result cells.new }
 {
     let pixels = data.len() / 7;
-    let mut x = 0;
-    while x < pixels {
-        let filled = compute_properties(mask, x, y, neighbours_of(data, x), 0, references, cells);
-        match filled {
-            Filled::Done => {}
-            Filled::Refused(refusal) => {
-                return refusal.number();
-            }
+    for x in 0..pixels {
+        let neighbours = take_seven(&data[7 * x..]);
+        if let Err(refusal) = compute_properties(mask, x, y, neighbours, 0, references, cells) {
+            return refusal.number();
         }
-        x += 1;
     }
     0
 }

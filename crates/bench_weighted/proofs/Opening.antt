@@ -16,11 +16,13 @@ use Rattle.integer.proofs.Fill.{tabulate_length, filled_length}
 use Rattle.integer.specs.Fill.{tabulate, filled}
 use Rattle.predict.specs.declared.neighbours.PredictionData.{PredictionData}
 use Rattle.refusal.proofs.Outcomes.{same_given, no_refusal}
-use Rattle.refusal.specs.Paper.{gives}
+use Rattle.refusal.specs.Paper.{Outcome, gives, said}
+use Rattle.refusal.specs.declared.Refusal.{Refusal}
+use Rattle.std.specs.Prelude.{Result, Ok}
 use Rattle.weighted.specs.Memory.{needed}
 use Rattle.weighted.specs.State.{test, is_width, at_start, opens, cleared}
 use Rattle.weighted.specs.declared.state.WeightedState.{WeightedState}
-use Rattle.bench_weighted.specs.Weighed.{neighbours_of, value_of, Fresh, memory_after, answers_to, WeighsAll}
+use Rattle.bench_weighted.specs.Weighed.{neighbours_of, value_of, Fresh, memory_after, answers_to}
 
 pub record Started (h : WeightedHeader) (width : ℕ) (m : List ℕ) (s : WeightedState) : Type 0 where
   pub ranged : in_range h ≡ true
@@ -34,6 +36,10 @@ passed false b c n s t e = absurd (no_refusal e)
 passed true false c n s t e = absurd (no_refusal e)
 passed true true false n s t e = absurd (no_refusal e)
 passed true true true n s t e = (refl, refl, refl, sym (same_given e))
+
+-- where opening answers a state, it gives it
+pub gave : {r : Result WeightedState Refusal} {s : WeightedState} {o : Outcome WeightedState} → said r ≡ o → r ≡ Ok s → o ≡ gives s
+gave says is = sym says ∙ ap said is
 
 -- the calls depend on the memory as it is cleared and on the neighbours before
 module _ (h : WeightedHeader) (width : ℕ) (f g : ℕ → PredictionData) (value : ℕ → ℤ) (m n : List ℕ) (e : cleared m (opens h width m) ≡ cleared n (opens h width n)) where
@@ -75,14 +81,14 @@ module _ (h : WeightedHeader) (width : ℕ) (m : List ℕ) (s : WeightedState) (
     pub fresh_left : Fresh s m₁
     fresh_left = rw (left ∙ clears) fresh
 
-    pub weighs_on : {words plane : List ℤ} {a : List ℤ} {r : ℕ} {m' : List ℕ} {a' : List ℤ} → WeighsAll s words plane m₁ a r m' a'
+    pub weighs_on : (words plane : List ℤ) (a : List ℤ) {m' : List ℕ} {a' : List ℤ}
+        → m' ≡ memory_after s.header s.width words plane m₁ → a' ≡ answers_to s.header s.width words plane (length plane) a
         → (m' ≡ memory_after h width words plane m) × (a' ≡ answers_to h width words plane (length plane) a)
-    weighs_on {words} {plane} w =
-        let all = rw (left ∙ clears, started.first) at w in (
-          all.holds_memory
-              ∙ ap (λ (b : Before). b.memory) (calls_agree h width (neighbours_of words) (neighbours_of words) (value_of plane) zeros m (clears_again ∙ sym clears) (length plane) (λ j l. refl)),
-          all.holds_answers,
-        )
+    weighs_on words plane a memory_is answers_are = (
+      (rw (left ∙ clears, started.first) at memory_is)
+          ∙ ap (λ (b : Before). b.memory) (calls_agree h width (neighbours_of words) (neighbours_of words) (value_of plane) zeros m (clears_again ∙ sym clears) (length plane) (λ j l. refl)),
+      rw started.first at answers_are,
+    )
 
 -- before the first turn
 module _ (s : WeightedState) (m : List ℕ) (begins : Fresh s m) (f : ℕ → PredictionData) (value : ℕ → ℤ) where

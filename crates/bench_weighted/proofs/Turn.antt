@@ -4,12 +4,13 @@
 use borrow.Author.Tests.{lt-ltb, ltb-true}
 use lib.Dec.{ltb}
 use lib.IntN.{ℤ, pos}
+use lib.ListN.{length}
 use mathlib.Core.Bool.{Bool, true, false}
 use mathlib.Core.List.{List, [], ◌∷◌, ◌++◌}
-use mathlib.Core.Path.{◌≡◌, refl, sym, ap, ap₂, ◌∙◌}
+use mathlib.Core.Path.{◌≡◌, refl, ap, ap₂, ◌∙◌}
 use native.Mathlib.Decide.{dec_lt}
 use native.Mathlib.Omega.{arith}
-use Prim.Native.Nat.{ℕ, zero, suc, ◌*◌, ◌/◌, ◌%◌, ◌^◌, ◌<◌}
+use Prim.Native.Nat.{ℕ, zero, suc, ◌*◌, ◌/◌, ◌%◌, ◌^◌, ◌≤◌, ◌<◌}
 use Rattle.blend.specs.Blend.{predicted_of, errors_of}
 use Rattle.blend.specs.declared.PixelErrors.{PixelErrors}
 use Rattle.blend.specs.declared.Prediction.{Prediction}
@@ -19,17 +20,15 @@ use Rattle.history.specs.Calls.{Before, Words, calls}
 use Rattle.history.specs.Standard.{true_errors, err_sums, history, predicted}
 use Rattle.integer.specs.Order.{if}
 use Rattle.predict.specs.declared.neighbours.PredictionData.{PredictionData}
-use Rattle.refusal.proofs.Outcomes.{same_given, no_refusal}
-use Rattle.refusal.specs.Paper.{gives}
-use Rattle.weighted.specs.State.{asks, said_asked, state_asked, Asks, answered, puts, said_put, state_put, Puts, onward}
+use Rattle.refusal.specs.Paper.{gives, said, one_result}
+use Rattle.refusal.specs.declared.Refusal.{Refusal}
+use Rattle.std.specs.Prelude.{Result, Ok}
+use Rattle.weighted.specs.State.{asks, after_ask, tells, answered, puts, done, next_state, after_put, onward}
 use Rattle.weighted.specs.declared.state.Answer.{Answer}
-use Rattle.weighted.specs.declared.state.Asked.{Asked}
-use Rattle.weighted.specs.declared.state.Asked.TheVariants as asked
-use Rattle.weighted.specs.declared.state.Kept.{Kept}
-use Rattle.weighted.specs.declared.state.Put.{Put}
-use Rattle.weighted.specs.declared.state.Put.TheVariants as put
 use Rattle.weighted.specs.declared.state.WeightedState.{WeightedState}
-use Rattle.bench_weighted.proofs.Opening.{Started, calls_agree}
+use Rattle.bench_weighted.specs.Weighed.{neighbours_of, value_of, Fresh}
+use Rattle.bench_weighted.proofs.Opening.{Started, started, calls_agree}
+use Rattle.bench_weighted.proofs.WeighAllLoop.{Reached}
 
 history_agree : (h : WeightedHeader) (width : ℕ) (f g : ℕ → PredictionData) (value : ℕ → ℤ) (k : ℕ) → ((j : ℕ) → j < k → f j ≡ g j)
     → history h width f value k ≡ history h width g value k
@@ -55,17 +54,21 @@ or_last f k before last j l (no n) =
 pub words_more : (f : ℕ → PredictionData) (k : ℕ) → ((j : ℕ) → j < k → Words (f j)) → Words (f k) → (j : ℕ) → j < suc k → Words (f j)
 words_more f k before last j l = or_last f k before last j l (dec_lt j k)
 
+same_answer : {r : Result Answer Refusal} {a b : Answer} → r ≡ Ok a → r ≡ Ok b → a ≡ b
+same_answer p q = cc (p, q)
+
 -- what a put says that goes on to the next
-pub record PutSays (next : Before) (r : Put) (lent : List ℕ) : Type 0 where
-  pub not_refused : (kept : Kept) → r ≡ put.Refused kept → ⊥
-  pub goes_on : (s : WeightedState) → r ≡ put.Done s → s ≡ next.state
+pub record PutSays (next : Before) (r : Result Unit Refusal) (s : WeightedState) (lent : List ℕ) : Type 0 where
+  pub answers : r ≡ Ok tt
+  pub goes_on : s ≡ next.state
   pub leaves : lent ≡ next.memory
 
 -- what an ask says of the pixel that the calls have come to
-pub record AskSays (here next : Before) (told : Prediction) (value : ℤ) (lent : List ℕ) (r : Asked) : Type 0 where
-  pub not_refused : (kept : Kept) → r ≡ asked.Refused kept → ⊥
-  pub answers : (a : Answer) → r ≡ asked.Is a → a ≡ answered here.state told
-  pub then_put : (a : Answer) → r ≡ asked.Is a → {v : ℤ} → v ≡ value → {q : Put} {left : List ℕ} → Puts a.state lent v q left → PutSays next q left
+pub record AskSays (here next : Before) (told : Prediction) (value : ℤ) (lent : List ℕ) (r : Result Answer Refusal) (waiting : WeightedState) : Type 0 where
+  pub answers : r ≡ Ok (record { guess = told.guess; property = told.property })
+  pub tells_it : (a : Answer) → r ≡ Ok a → (a.guess ≡ told.guess) × (a.property ≡ told.property)
+  pub then_put : {v : ℤ} → v ≡ value → {q : Result Unit Refusal} {s : WeightedState} {left : List ℕ}
+      → said q ≡ done (puts waiting lent) → s ≡ next_state waiting (puts waiting lent) → left ≡ after_put waiting lent v (puts waiting lent) → PutSays next q s left
 
 module _
     {h : WeightedHeader} {width : ℕ} {m : List ℕ} {s₀ : WeightedState} (begun : Started h width m s₀) (f : ℕ → PredictionData) (value : ℕ → ℤ)
@@ -102,21 +105,32 @@ module _
       rw (calls_same, history_same, same k (omega arith)) at
       (put_accepted h width m known value begun.ranged begun.wide begun.roomy (λ j. words_if j (ltb j (suc k)) refl) k early)
 
-  pub ask_says : {s : WeightedState} {lent : List ℕ} {d : PredictionData} → s ≡ here.state → lent ≡ here.memory → d ≡ f k
-      → {r : Asked} → Asks s lent d r → AskSays here (calls h width m f value (suc k)) told (value k) lent r
+  pub ask_says : {s waiting : WeightedState} {lent : List ℕ} {d : PredictionData} → s ≡ here.state → lent ≡ here.memory → d ≡ f k
+      → {r : Result Answer Refusal} → said r ≡ tells (asks s lent d) → waiting ≡ after_ask s (asks s lent d) → AskSays here (calls h width m f value (suc k)) told (value k) lent r waiting
   unfolding calls
-  ask_says s_is Lent-is d_is {r} by_ask =
-      let says = (rw (s_is, Lent-is, d_is) at by_ask.answers) ∙ asks_is in
-      let answers : (a : Answer) → r ≡ asked.Is a → a ≡ answered here.state told = λ a e. same_given (sym (ap said_asked e) ∙ says) in
-      let waits = rw (s_is, Lent-is, d_is) at by_ask.state_is in
+  ask_says s_is Lent-is d_is {r} by_ask by_state =
+      let waits = rw (s_is, Lent-is, d_is) at by_state in
+      let asked_puts : puts (after_ask here.state (asks here.state here.memory (f k))) here.memory ≡ gives (onward (answered here.state told).state) = rw asks_is puts_is in
+      let answers : r ≡ Ok (record { guess = told.guess; property = told.property }) = one_result r _ ((rw (s_is, Lent-is, d_is) at by_ask) ∙ ap tells asks_is) refl in
       record {
-        not_refused = λ a e. no_refusal (sym (ap said_asked e) ∙ says);
         answers = answers;
-        then_put = λ a e v_is by_put.
-            let state_is = sym (ap state_asked e) ∙ waits in
+        tells_it = λ a e. (ap (λ (x : Answer). x.guess) (same_answer e answers), ap (λ (x : Answer). x.property) (same_answer e answers));
+        then_put = λ v_is {q} by_put by_next by_memory.
             record {
-              not_refused = λ b g. no_refusal (sym (ap said_put g) ∙ (rw (answers a e, Lent-is) at by_put.answers) ∙ puts_is);
-              goes_on = λ next g. sym (ap state_put g) ∙ (rw (state_is, Lent-is) at by_put.state_is);
-              leaves = rw (state_is, Lent-is, v_is) at by_put.holds;
+              answers = one_result q _ ((rw (waits, Lent-is) at by_put) ∙ ap done asked_puts) refl;
+              goes_on = rw (waits, Lent-is) at by_next;
+              leaves = rw (waits, Lent-is, v_is) at by_memory;
             };
       }
+
+-- one turn of the loop
+pub turn_says : {words plane : List ℤ} {m₀ : List ℕ} {a₀ : List ℤ} {s₀ : WeightedState} {m : List ℕ} {a : List ℤ} {s : WeightedState} {k : ℕ}
+    → Reached words plane m₀ a₀ s₀ m a s k → Fresh s₀ m₀ → length plane ≤ s₀.width * 2 ^ 30 → k < length plane
+    → {d : PredictionData} → Words d → d ≡ neighbours_of words k
+    → {r : Result Answer Refusal} {waiting : WeightedState} → said r ≡ tells (asks s m d) → waiting ≡ after_ask s (asks s m d)
+    → AskSays (calls s₀.header s₀.width m₀ (neighbours_of words) (value_of plane) k) (calls s₀.header s₀.width m₀ (neighbours_of words) (value_of plane) (suc k))
+    (predicted s₀.header s₀.width (neighbours_of words) (value_of plane) k) (value_of plane k) m r waiting
+turn_says {words} {plane} {m₀} {a₀} {s₀} {m} {a} {s} {k} reached fresh rows below small is by_ask by_state =
+    let begun = started s₀.header s₀.width m₀ s₀ fresh.opens_again in
+    let early : k < s₀.width * 2 ^ 30 = omega (arith, rows, below) in
+    ask_says begun (neighbours_of words) (value_of plane) k early (words_more (neighbours_of words) k reached.read (rw is at small)) reached.state_is reached.memory_is is by_ask by_state

@@ -49,11 +49,6 @@ module _ (h : WeightedHeader) (width : ℕ) (words plane : List ℤ) where
   abbrev pub answers_to : ℕ → List ℤ → List ℤ
   answers_to k a = filled (answer_word (predicted h width (neighbours_of words) (value_of plane))) (2 * k) a
 
-pub record WeighsAll (s : WeightedState) (words plane : List ℤ) (m : List ℕ) (a : List ℤ) (r : ℕ) (m' : List ℕ) (a' : List ℤ) : Type 0 where
-  pub answers : r ≡ 0
-  pub holds_memory : m' ≡ memory_after s.header s.width words plane m
-  pub holds_answers : a' ≡ answers_to s.header s.width words plane (length plane) a
-
 -- ---- the whole call
 
 -- the lists' lengths, the rows, then as opening

@@ -2,95 +2,70 @@
 // that each has one caller and is compiled into its loop.
 #![tactic(auto)]
 
-ghost use Rattle.std.specs.Prelude.{◌≡◌, leb, length, set, ◌+◌, ◌*◌, ◌^◌, ◌≤◌};
+ghost use Rattle.std.specs.Prelude.{◌≡◌, leb, length, set, ◌+◌, ◌*◌, ◌^◌, ◌≤◌, Ok};
+ghost use Rattle.history.specs.Calls.{Words};
 ghost use Rattle.bench_weighted.specs.Weighed.{
   neighbours_of,
   Fresh,
-  WeighsAll,
+  memory_after,
+  answers_to,
   WeighsPlane,
 };
 
-use integer::widen;
 use lab_weighted::header_of;
 use predict::neighbours::PredictionData;
-use weighted::state::{Asked, Opened, Put, WeightedState};
+use refusal::Refusal;
+use told::take_seven;
+use weighted::state::{Answer, WeightedState};
 
 // The neighbours of pixel k, seven words a pixel.
 fn neighbours_of(data: &[i32], k: usize) -> PredictionData
     requires { 7 * k + 7 ≤ length «data».now }
-    ensures { result ≡ neighbours_of «data».now k }
+    ensures value { result ≡ neighbours_of «data».now k }
+    ensures small { Words result }
 {
-    let first = 7 * k;
-    PredictionData {
-        left: data[first],
-        top: data[first + 1],
-        toptop: data[first + 2],
-        topleft: data[first + 3],
-        topright: data[first + 4],
-        leftleft: data[first + 5],
-        toprightright: data[first + 6],
-    }
+    take_seven(&data[7 * k..])
 }
 
 // Whether that many pixels begin no more rows than a plane may have.
 fn rows_fit(width: usize, pixels: usize) -> bool
     ensures { result ≡ leb pixels (width * 2 ^ 30) }
 {
-    if pixels == 0 {
-        return true;
-    }
-    if width <= (pixels - 1) / 1073741824 {
-        return false;
-    }
-    true
+    pixels == 0 || (pixels - 1) / 1073741824 < width
 }
 
 // The answer of pixel k, two words a pixel.
-fn tell(answers: &mut [i64], k: usize, guess: i64, property: i32)
+fn tell(answers: &mut [i64], k: usize, answer: Answer)
     requires { 2 * k + 2 ≤ length answers.old }
-    ensures { answers.new ≡ set (set answers.old (2 * k) guess) (2 * k + 1) property }
+    ensures { answers.new ≡ set (set answers.old (2 * k) answer.guess) (2 * k + 1) answer.property }
 {
-    let wide = widen(property);
-    answers[2 * k] = guess;
-    answers[2 * k + 1] = wide;
+    answers[2 * k] = answer.guess;
+    answers[2 * k + 1] = answer.property as i64;
 }
 
-// Ask, answer and put, pixel after pixel. Neither call is refused from a fresh state on, so that the answer is never 13.
+// Ask, answer and put, pixel after pixel. Neither call is refused from a fresh state on.
 fn weigh_all(
     opened: WeightedState,
     data: &[i32],
     plane: &[i32],
     memory: &mut [u32],
     answers: &mut [i64],
-) -> u32
-    requires { (7 * length plane.now ≤ length «data».now) × (2 * length plane.now ≤ length answers.old) × (length plane.now ≤ opened.width * 2 ^ 30) × Fresh opened memory.old }
-    ensures { WeighsAll opened «data».now plane.now memory.old answers.old result memory.new answers.new }
+) -> Result<(), Refusal>
+    requires data { 7 * length plane.now ≤ length «data».now }
+    requires answers { 2 * length plane.now ≤ length answers.old }
+    requires rows { length plane.now ≤ opened.width * 2 ^ 30 }
+    requires fresh { Fresh opened memory.old }
+    ensures answers { result ≡ Ok tt }
+    ensures holds_memory { memory.new ≡ memory_after opened.header opened.width «data».now plane.now memory.old }
+    ensures holds_answers { answers.new ≡ answers_to opened.header opened.width «data».now plane.now (length plane.now) answers.old }
 {
     let mut state = opened;
-    let mut k = 0;
-    while k < plane.len() {
-        let asked = state.ask(memory, neighbours_of(data, k));
-        match asked {
-            Asked::Is(answer) => {
-                let waiting = answer.state;
-                tell(answers, k, answer.guess, answer.property);
-                let put = waiting.put(memory, plane[k]);
-                match put {
-                    Put::Done(next) => {
-                        state = next;
-                    }
-                    Put::Refused(_) => {
-                        return 13;
-                    }
-                }
-            }
-            Asked::Refused(_) => {
-                return 13;
-            }
-        }
-        k += 1;
+    for k in 0..plane.len() {
+        let answer = state.ask(memory, neighbours_of(data, k))?;
+        tell(answers, k, answer);
+        state.put(memory, plane[k])?;
     }
-    0
+    Ok(())
 }
 
 // The guess and the property of each pixel of a plane: refused by the lists' lengths (8), by the number of rows (11), then as
@@ -106,21 +81,18 @@ pub extern "C" fn matuviso_weigh_plane(
 ) -> u32
     ensures { WeighsPlane header.now width «data».now plane.now memory.old answers.old result memory.new answers.new }
 {
-    if header.len() < 11 {
-        return 8;
-    }
-    if data.len() / 7 < plane.len() {
-        return 8;
-    }
-    if answers.len() / 2 < plane.len() {
+    if header.len() < 11 || data.len() / 7 < plane.len() || answers.len() / 2 < plane.len() {
         return 8;
     }
     if !rows_fit(width, plane.len()) {
         return 11;
     }
-    let opened = WeightedState::open(header_of(header), width, memory);
-    match opened {
-        Opened::Is(state) => weigh_all(state, data, plane, memory, answers),
-        Opened::Refused(refusal) => refusal.number(),
+    let state = match WeightedState::open(header_of(header), width, memory) {
+        Ok(state) => state,
+        Err(refusal) => return refusal.number(),
+    };
+    match weigh_all(state, data, plane, memory, answers) {
+        Ok(()) => 0,
+        Err(refusal) => refusal.number(),
     }
 }

@@ -1,13 +1,14 @@
 -- What the C functions answer and write, from the library's own definitions: 0 and the words, or a refusal's number and nothing.
-use Rattle.std.specs.Prelude.{Bool, List, [], ◌∷◌, ◌≡◌, ℕ, ltb, ℤ, pos, neg_ℤ, length, get_or, drop}
+use Rattle.std.specs.Prelude.{Bool, List, [], ◌∷◌, ◌≡◌, ℕ, ltb, ℤ, pos, neg_ℤ, length, get_or, drop, Result, Ok, Err}
 use Rattle.colour.specs.Restore.{outcome, after, first, second, third}
 use Rattle.integer.specs.Order.{if}
+use Rattle.told.specs.Told.{data_of}
 use Rattle.refusal.specs.Paper.{Outcome, gives, refuses, one_value}
 use Rattle.predict.specs.Neighbours.{shortcut}
 use Rattle.predict.specs.Predictors.{numbered, guess}
 use Rattle.predict.specs.declared.neighbours.PredictionData.{PredictionData}
-use Rattle.predict.specs.declared.predictors.Numbered.{Numbered}
-use Rattle.predict.specs.declared.predictors.Numbered.TheVariants.{Is, NoSuch}
+use Rattle.predict.specs.declared.predictors.NoSuchPredictor.{NoSuchPredictor}
+use Rattle.predict.specs.declared.predictors.Predictor.{Predictor}
 
 -- the answer, or minus the refusal's number
 abbrev pub as_number : Outcome ℕ → ℤ
@@ -23,17 +24,6 @@ abbrev pub put_seven : PredictionData → List ℤ → List ℤ
 put_seven d words =
     if (ltb (length words) 7) words
     (d.left ∷ d.top ∷ d.toptop ∷ d.topleft ∷ d.topright ∷ d.leftleft ∷ d.toprightright ∷ drop 7 words)
-
-abbrev pub data_of : List ℤ → PredictionData
-data_of words = record {
-  left = get_or words 0 (pos 0);
-  top = get_or words 1 (pos 0);
-  toptop = get_or words 2 (pos 0);
-  topleft = get_or words 3 (pos 0);
-  topright = get_or words 4 (pos 0);
-  leftleft = get_or words 5 (pos 0);
-  toprightright = get_or words 6 (pos 0);
-}
 
 abbrev pub seven_status : Outcome PredictionData → List ℤ → ℕ
 seven_status (gives d) words = put_status words
@@ -58,13 +48,13 @@ pub record Shifts (old top toptop : List ℤ) (x : ℕ) (cur : ℤ) (needs_top n
 
 -- ---- one guess
 
-abbrev pub guess_status : Numbered → List ℤ → List ℤ → ℕ
-guess_status NoSuch old words = 3
-guess_status (Is p) old words = if (ltb (length old) 7) 8 (if (ltb (length words) 1) 8 0)
+abbrev pub guess_status : Result Predictor NoSuchPredictor → List ℤ → List ℤ → ℕ
+guess_status (Err none) old words = 3
+guess_status (Ok p) old words = if (ltb (length old) 7) 8 (if (ltb (length words) 1) 8 0)
 
-abbrev pub guess_after : Numbered → List ℤ → ℤ → List ℤ → List ℤ
-guess_after NoSuch old wp words = words
-guess_after (Is p) old wp words =
+abbrev pub guess_after : Result Predictor NoSuchPredictor → List ℤ → ℤ → List ℤ → List ℤ
+guess_after (Err none) old wp words = words
+guess_after (Ok p) old wp words =
     if (ltb (length old) 7) words (if (ltb (length words) 1) words (guess p (data_of old) wp ∷ drop 1 words))
 
 pub record Guesses (p : ℕ) (old : List ℤ) (wp : ℤ) (words : List ℤ) (r : ℕ) (end : List ℤ) : Type 0 where

@@ -10,16 +10,18 @@ ghost use Rattle.lab.specs.Answers.{
   PutsSeven,
   Shifts,
   Guesses,
-  data_of,
   put_seven,
   put_status,
+  shifted,
   Steps,
 };
+ghost use Rattle.refusal.specs.Paper.{said};
 
-use arith::Weight;
-use colour::restore::{Restored, do_rct_step};
-use predict::neighbours::{Neighbourhood, PredictionData};
-use predict::predictors::{Numbered, Predictor};
+use colour::restore::do_rct_step;
+use predict::neighbours::PredictionData;
+use predict::predictors::Predictor;
+use refusal::Refusal;
+use told::take_seven;
 
 #[unsafe(no_mangle)]
 pub extern "C" fn matuviso_floor_log2_nonzero(x: u64) -> u32
@@ -33,10 +35,9 @@ pub extern "C" fn matuviso_floor_log2_nonzero(x: u64) -> u32
 pub extern "C" fn matuviso_error_weight(x: u32, m: u32) -> i64
     ensures { result ≡ as_number (error_weight x m) }
 {
-    let weight = arith::error_weight(x, m);
-    match weight {
-        Weight::Is(w) => w as i64,
-        Weight::Refused(refusal) => 0 - refusal.number() as i64,
+    match arith::error_weight(x, m) {
+        Ok(weight) => weight as i64,
+        Err(refusal) => -(refusal.number() as i64),
     }
 }
 
@@ -47,37 +48,14 @@ fn put_seven(data: PredictionData, seven: &mut [i32]) -> u32
     if seven.len() < 7 {
         return 8;
     }
-    let left = data.left;
-    let top = data.top;
-    let toptop = data.toptop;
-    let topleft = data.topleft;
-    let topright = data.topright;
-    let leftleft = data.leftleft;
-    let toprightright = data.toprightright;
-    seven[0] = left;
-    seven[1] = top;
-    seven[2] = toptop;
-    seven[3] = topleft;
-    seven[4] = topright;
-    seven[5] = leftleft;
-    seven[6] = toprightright;
+    seven[0] = data.left;
+    seven[1] = data.top;
+    seven[2] = data.toptop;
+    seven[3] = data.topleft;
+    seven[4] = data.topright;
+    seven[5] = data.leftleft;
+    seven[6] = data.toprightright;
     0
-}
-
-// Reads the seven in their order, of 7 words or more.
-fn take_seven(seven: &[i32]) -> PredictionData
-    requires { 7 ≤ length seven.now }
-    ensures { result ≡ data_of seven.now }
-{
-    PredictionData {
-        left: seven[0],
-        top: seven[1],
-        toptop: seven[2],
-        topleft: seven[3],
-        topright: seven[4],
-        leftleft: seven[5],
-        toprightright: seven[6],
-    }
 }
 
 #[unsafe(no_mangle)]
@@ -91,11 +69,28 @@ pub extern "C" fn matuviso_get_rows(
 ) -> u32
     ensures { PutsSeven (neighbours row.now top.now toptop.now x y) seven.old result seven.new }
 {
-    let found = predict::neighbours::get_rows(row, top, toptop, x, y);
-    match found {
-        Neighbourhood::Is(data) => put_seven(data, seven),
-        Neighbourhood::Refused(refusal) => refusal.number(),
+    match predict::neighbours::get_rows(row, top, toptop, x, y) {
+        Ok(data) => put_seven(data, seven),
+        Err(refusal) => refusal.number(),
     }
+}
+
+// The neighbours one place on from those in `data`, of which there are to be seven words.
+fn shifted(
+    data: &[i32],
+    top: &[i32],
+    toptop: &[i32],
+    x: usize,
+    cur: i32,
+    needs_top: bool,
+    needs_toptop: bool,
+) -> Result<PredictionData, Refusal>
+    ensures { said result ≡ shifted «data».now top.now toptop.now x cur needs_top needs_toptop }
+{
+    if data.len() < 7 {
+        return Err(Refusal::TooSmall { needed: 7 });
+    }
+    take_seven(data).update_for_interior_row(top, toptop, x, cur, needs_top, needs_toptop)
 }
 
 #[unsafe(no_mangle)]
@@ -111,14 +106,9 @@ pub extern "C" fn matuviso_update_for_interior_row(
 ) -> u32
     ensures { Shifts «data».now top.now toptop.now x cur needs_top needs_toptop seven.old result seven.new }
 {
-    if data.len() < 7 {
-        return 8;
-    }
-    let old = take_seven(data);
-    let moved = old.update_for_interior_row(top, toptop, x, cur, needs_top, needs_toptop);
-    match moved {
-        Neighbourhood::Is(new) => put_seven(new, seven),
-        Neighbourhood::Refused(refusal) => refusal.number(),
+    match shifted(data, top, toptop, x, cur, needs_top, needs_toptop) {
+        Ok(moved) => put_seven(moved, seven),
+        Err(refusal) => refusal.number(),
     }
 }
 
@@ -127,20 +117,14 @@ pub extern "C" fn matuviso_update_for_interior_row(
 pub extern "C" fn matuviso_predict_one(p: u32, data: &[i32], wp_pred: i64, guess: &mut [i64]) -> u32
     ensures { Guesses p «data».now wp_pred guess.old result guess.new }
 {
-    let named = Predictor::try_from(p);
-    match named {
-        Numbered::Is(predictor) => {
-            if data.len() < 7 {
-                return 8;
-            }
-            if guess.len() < 1 {
-                return 8;
-            }
-            guess[0] = predictor.predict_one(take_seven(data), wp_pred);
-            0
-        }
-        Numbered::NoSuch => 3,
+    let Ok(predictor) = Predictor::try_from(p) else {
+        return 3;
+    };
+    if data.len() < 7 || guess.len() < 1 {
+        return 8;
     }
+    guess[0] = predictor.predict_one(take_seven(data), wp_pred);
+    0
 }
 
 // One step of colour restore over the three planes.
@@ -154,9 +138,8 @@ pub extern "C" fn matuviso_do_rct_step(
 ) -> u32
     ensures { Steps operation order a.old b.old c.old result a.new b.new c.new }
 {
-    let step = do_rct_step(a, b, c, operation, order);
-    match step {
-        Restored::Done => 0,
-        Restored::Refused(refusal) => refusal.number(),
+    match do_rct_step(a, b, c, operation, order) {
+        Ok(()) => 0,
+        Err(refusal) => refusal.number(),
     }
 }

@@ -5,40 +5,42 @@
 
 ghost use Rattle.std.specs.Prelude.{◌≡◌, length, ◌≤◌, true};
 ghost use Rattle.flat.specs.FlatWalk.{flat_of};
-ghost use Rattle.told.specs.Told.{Tells, begun};
-ghost use Rattle.walk.specs.Walk.{said, walk_of};
-ghost use Rattle.lab_flat.specs.Told.{FlattenTold, WalkTold, count_words, result_words, said_flattened};
+ghost use Rattle.flatten.specs.Flatten.{ring_after, output_after};
+ghost use Rattle.integer.specs.Order.{if};
+ghost use Rattle.refusal.specs.Paper.{said};
+ghost use Rattle.told.specs.Told.{Tells, begun, room};
+ghost use Rattle.walk.specs.Walk.{walk_of};
+ghost use Rattle.lab_flat.specs.Told.{WalkTold, answer, count_words, result_words};
 
 use flat::predict_flat;
-use flatten::{Flattened, build_flat_tree};
+use flatten::build_flat_tree;
+use refusal::Refusal;
 use told::{take_seven, tell};
-use walk::{PredictionResult, Walked, predict};
+use walk::{PredictionResult, predict};
 
 // Guess, multiplier, context and hops, in this order.
 fn tell_result(res: PredictionResult, told: &mut [i64])
     requires { 5 ≤ length told.old }
     ensures { told.new ≡ begun (result_words res) told.old }
 {
-    let guess = res.guess;
-    let multiplier = res.multiplier as i64;
-    let context = res.context as i64;
-    let hops = res.hops as i64;
-    told[0] = guess;
-    told[1] = multiplier;
-    told[2] = context;
-    told[3] = hops;
+    told[..4].copy_from_slice(&[
+        res.guess,
+        res.multiplier as i64,
+        res.context as i64,
+        res.hops as i64,
+    ]);
 }
 
-fn tell_walked(walked: Walked, told: &mut [i64]) -> u32
+fn tell_walked(walked: Result<PredictionResult, Refusal>, told: &mut [i64]) -> u32
     requires { 5 ≤ length told.old }
     ensures { Tells result_words true (said walked) told.old result told.new }
 {
     match walked {
-        Walked::Is(result) => {
+        Ok(result) => {
             tell_result(result, told);
             0
         }
-        Walked::Refused(refusal) => tell(refusal, told),
+        Err(refusal) => tell(refusal, told),
     }
 }
 
@@ -53,14 +55,10 @@ pub extern "C" fn matuviso_predict(
 ) -> u32
     ensures { WalkTold (walk_of words.now cells.now) «data».now wp_pred told.old result told.new }
 {
-    if data.len() < 7 {
+    if data.len() < 7 || told.len() < 5 {
         return 8;
     }
-    if told.len() < 5 {
-        return 8;
-    }
-    let walked = predict(words, cells, take_seven(data), wp_pred);
-    tell_walked(walked, told)
+    tell_walked(predict(words, cells, take_seven(data), wp_pred), told)
 }
 
 // The same over flat records.
@@ -74,26 +72,22 @@ pub extern "C" fn matuviso_predict_flat(
 ) -> u32
     ensures { WalkTold (flat_of words.now cells.now) «data».now wp_pred told.old result told.new }
 {
-    if data.len() < 7 {
+    if data.len() < 7 || told.len() < 5 {
         return 8;
     }
-    if told.len() < 5 {
-        return 8;
-    }
-    let walked = predict_flat(words, cells, take_seven(data), wp_pred);
-    tell_walked(walked, told)
+    tell_walked(predict_flat(words, cells, take_seven(data), wp_pred), told)
 }
 
-fn tell_flattened(flattened: Flattened, told: &mut [i64]) -> u32
+fn tell_flattened(flattened: Result<usize, Refusal>, told: &mut [i64]) -> u32
     requires { 5 ≤ length told.old }
-    ensures { Tells count_words true (said_flattened «flattened») told.old result told.new }
+    ensures { Tells count_words true (said flattened) told.old result told.new }
 {
     match flattened {
-        Flattened::Records(count) => {
+        Ok(count) => {
             told[0] = (count % 4294967296) as i64;
             0
         }
-        Flattened::Refused(refusal) => tell(refusal, told),
+        Err(refusal) => tell(refusal, told),
     }
 }
 
@@ -105,7 +99,9 @@ pub extern "C" fn matuviso_build_flat_tree(
     output: &mut [i32],
     told: &mut [i64],
 ) -> u32
-    ensures { FlattenTold words.now ring.old output.old told.old result ring.new output.new told.new }
+    ensures tells { Tells count_words (room told.old) (answer words.now ring.old output.old) told.old result told.new }
+    ensures leaves { ring.new ≡ if (room told.old) (ring_after (answer words.now ring.old output.old) words.now ring.old) ring.old }
+    ensures writes { output.new ≡ if (room told.old) (output_after (answer words.now ring.old output.old) words.now output.old) output.old }
 {
     if told.len() < 5 {
         return 8;

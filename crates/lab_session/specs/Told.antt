@@ -5,7 +5,8 @@ use Rattle.std.specs.Prelude.{Bool, ◌&&◌, not, List, [], ◌∷◌, ◌≡�
 use Rattle.integer.specs.Order.{if}
 use Rattle.lab_weighted.specs.Told.{header_of, state_of, placed, after}
 use Rattle.refusal.specs.Paper.{Outcome, gives, refuses, one_value}
-use Rattle.row.specs.Row.{Ended, all, halted, Row, unpacks}
+use Rattle.row.specs.Row.{Answer, answer_of, complete, stopped, Row, unpacks}
+use Rattle.row.specs.Row as rows
 use Rattle.session.specs.Session.{Asking, Opening, Putting, asks, opens, puts}
 use Rattle.session.specs.declared.Session.{Session}
 use Rattle.told.specs.Told.{Tells, begun, done_or, nothing, telling}
@@ -51,22 +52,18 @@ no_words s = []
 
 -- ---- the end of a row
 
-abbrev pub end_says : Ended → Outcome Unit
-end_says (all s) = gives tt
-end_says (halted pixels number details s) = refuses number details
-
-abbrev pub end_session : Ended → Session
-end_session (all s) = s
-end_session (halted pixels number details s) = s
+abbrev pub end_says : Answer → Outcome Unit
+end_says complete = gives tt
+end_says (stopped pixels number details) = refuses number details
 
 -- past the five words that a refusal may have, how many pixels were put before it
-abbrev pub count_put : Ended → List ℤ → List ℤ
-count_put (all s) words = words
-count_put (halted pixels number details s) words = set words 5 (pos pixels)
+abbrev pub count_put : Answer → List ℤ → List ℤ
+count_put complete words = words
+count_put (stopped pixels number details) words = set words 5 (pos pixels)
 
-pub record EndTold (long : Bool) (e : Ended) (words : List ℤ) (r : ℕ) (words' : List ℤ) : Type 0 where
-  pub answers : r ≡ if long (done_or (end_says e)) 8
-  pub holds : words' ≡ if long (count_put e (begun (telling nothing (end_says e)) words)) words
+pub record EndTold (long : Bool) (a : Answer) (words : List ℤ) (r : ℕ) (words' : List ℤ) : Type 0 where
+  pub answers : r ≡ if long (done_or (end_says a)) 8
+  pub holds : words' ≡ if long (count_put a (begun (telling nothing (end_says a)) words)) words
 
 module _ (header place : List ℕ) (found : List ℤ) (settings : List ℕ) where
   abbrev pub long : List ℤ → Bool
@@ -115,8 +112,8 @@ module _ (header place : List ℕ) (found : List ℤ) (settings : List ℕ) wher
     longer told = leb 6 (length told) && long told
 
     pub record RowTold (told : List ℤ) (r : ℕ) (place' : List ℕ) (found' : List ℤ) (settings' : List ℕ) (plane' : List ℤ) (contexts' : List ℕ) (cells' : List ℤ) (m' : List ℕ) (told' : List ℤ) : Type 0 where
-      pub tells : EndTold (longer told) row.ended told r told'
-      pub writes : Written (test (longer told) 8 0 (gives (end_session row.ended))) place found settings place' found' settings'
+      pub tells : EndTold (longer told) (answer_of row.ended) told r told'
+      pub writes : Written (test (longer told) 8 0 (gives (rows.session_of row.ended))) place found settings place' found' settings'
       pub holds_plane : plane' ≡ if (longer told) row.plane plane
       pub holds_contexts : contexts' ≡ if (longer told) row.contexts contexts
       pub holds_cells : cells' ≡ if (longer told) row.cells cells
@@ -124,7 +121,7 @@ module _ (header place : List ℕ) (found : List ℤ) (settings : List ℕ) wher
 
 -- ---- determinacy
 
-pub end_determined : {long : Bool} {e : Ended} {words : List ℤ} {r s : ℕ} {a b : List ℤ} → EndTold long e words r a → EndTold long e words s b → (r ≡ s) × (a ≡ b)
+pub end_determined : {long : Bool} {e : Answer} {words : List ℤ} {r s : ℕ} {a b : List ℤ} → EndTold long e words r a → EndTold long e words s b → (r ≡ s) × (a ≡ b)
 end_determined p q = (one_value p.answers q.answers, one_value p.holds q.holds)
 
 pub written_determined : {o : Outcome Session} {place : List ℕ} {found : List ℤ} {settings place' place'' : List ℕ} {found' found'' : List ℤ} {settings' settings'' : List ℕ}

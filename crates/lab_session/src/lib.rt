@@ -6,17 +6,9 @@
 #![tactic(auto)]
 
 ghost use Rattle.std.specs.Prelude.{true, ◌≡◌, length, ◌≤◌};
-ghost use Rattle.integer.specs.Order.{if};
-ghost use Rattle.refusal.specs.Paper.{gives};
-ghost use Rattle.row.specs.Row.{said};
-ghost use Rattle.session.specs.Session.{
-  said_asked,
-  said_opened,
-  said_put,
-  session_asked,
-  session_put,
-};
-ghost use Rattle.told.specs.Told.{Tells, nothing};
+ghost use Rattle.refusal.specs.Paper.{gives, said};
+ghost use Rattle.row.specs.Row as rows;
+ghost use Rattle.told.specs.Told.{Tells};
 ghost use Rattle.lab_session.specs.Told.{
   AskTold,
   EndTold,
@@ -25,52 +17,47 @@ ghost use Rattle.lab_session.specs.Told.{
   RowTold,
   Written,
   context_words,
-  end_session,
-  found_put,
-  no_words,
   session_of,
-  settled,
   tell_session,
 };
 
 use lab_weighted::{found_of, header_of, put_found, put_place};
-use row::{RowAnswer, unpack_row};
-use session::{AskAnswer, OpenAnswer, PutAnswer, Session};
-use told::tell;
+use refusal::Refusal;
+use row::{Stopped, unpack_row};
+use session::Session;
+use told::{tell, tell_done};
 use weighted::state::WeightedState;
 
-// Whether lists of these lengths tell a session, with room for what is told of an answer.
-fn tell_session(header: usize, place: usize, found: usize, settings: usize, told: usize) -> bool
-    ensures { result ≡ tell_session header place found settings told }
+// Whether these lists tell a session, with room for what is told of an answer.
+fn tell_session(
+    header: &[u32],
+    place: &[u64],
+    found: &[i64],
+    settings: &[u32],
+    told: &[i64],
+) -> bool
+    ensures { result ≡ tell_session (length header.now) (length place.now) (length found.now) (length settings.now) (length told.now) }
 {
-    if header < 11 {
-        return false;
-    }
-    if place < 4 {
-        return false;
-    }
-    if found < 6 {
-        return false;
-    }
-    if settings < 4 {
-        return false;
-    }
-    5 <= told
+    11 <= header.len()
+        && 4 <= place.len()
+        && 6 <= found.len()
+        && 4 <= settings.len()
+        && 5 <= told.len()
 }
 
+// The session that the lists tell.
+#[tactic(auto, unfolding(crate::specs::Told::session_of, lab_weighted::specs::Told::state_of))]
 fn session_of(header: &[u32], place: &[u64], found: &[i64], settings: &[u32]) -> Session
     requires { (4 ≤ length place.now) × (6 ≤ length found.now) × (4 ≤ length settings.now) }
     ensures { result ≡ session_of header.now place.now found.now settings.now }
 {
-    let known = header_of(header);
-    let before = found_of(found);
     let weighted = WeightedState {
-        header: known,
+        header: header_of(header),
         width: place[0] as usize,
         x: place[1] as usize,
         y: place[2] as usize,
         asked: place[3] != 0,
-        found: before,
+        found: found_of(found),
     };
     Session {
         weighted,
@@ -82,59 +69,20 @@ fn session_of(header: &[u32], place: &[u64], found: &[i64], settings: &[u32]) ->
     }
 }
 
-fn flag(is: bool) -> u32
-    ensures { result ≡ if is 1 0 }
-{
-    if is { 1 } else { 0 }
-}
-
-fn put_settings(session: Session, settings: &mut [u32])
-    requires { 4 ≤ length settings.old }
-    ensures { settings.new ≡ settled session settings.old }
-{
-    settings[0] = flag(session.weights);
-    settings[1] = session.mask;
-    settings[2] = flag(session.live);
-    settings[3] = session.multiplier;
-}
-
-fn put_guess(session: Session, found: &mut [i64])
-    requires { 6 ≤ length found.old }
-    ensures { found.new ≡ found_put session found.old }
-{
-    let weighted = session.weighted;
-    let guess = session.guess;
-    put_found(weighted.found, found);
-    found[5] = guess;
-}
-
+// The lists of this session.
 fn put_session(session: Session, place: &mut [u64], found: &mut [i64], settings: &mut [u32])
     requires { (6 ≤ length found.old) × (4 ≤ length settings.old) }
     ensures { Written (gives session) place.old found.old settings.old place.new found.new settings.new }
 {
     put_place(session.weighted, place);
-    put_guess(session, found);
-    put_settings(session, settings);
-}
-
-fn tell_opened(
-    opened: OpenAnswer,
-    place: &mut [u64],
-    found: &mut [i64],
-    settings: &mut [u32],
-    told: &mut [i64],
-) -> u32
-    requires { (6 ≤ length found.old) × (4 ≤ length settings.old) × (5 ≤ length told.old) }
-    ensures tells { Tells no_words true (said_opened opened) told.old result told.new }
-    ensures written { Written (said_opened opened) place.old found.old settings.old place.new found.new settings.new }
-{
-    match opened {
-        OpenAnswer::Is(session) => {
-            put_session(session, place, found, settings);
-            0
-        }
-        OpenAnswer::Refused(refusal) => tell(refusal, told),
-    }
+    put_found(session.weighted.found, found);
+    found[5] = session.guess;
+    settings[..4].copy_from_slice(&[
+        session.weights as u32,
+        session.mask,
+        session.live as u32,
+        session.multiplier,
+    ]);
 }
 
 // Opens a session and tells it.
@@ -155,42 +103,38 @@ pub extern "C" fn matuviso_session_open(
 ) -> u32
     ensures { OpenTold header.now place.old found.old settings.old width weights mask «channel» «stream» cells.old memory.old told.old result place.new found.new settings.new cells.new memory.new told.new }
 {
-    if !tell_session(
-        header.len(),
-        place.len(),
-        found.len(),
-        settings.len(),
-        told.len(),
-    ) {
+    if !tell_session(header, place, found, settings, told) {
         return 8;
     }
-    let known = header_of(header);
-    let opened = Session::open(width, known, weights, mask, channel, stream, cells, memory);
-    tell_opened(opened, place, found, settings, told)
-}
-
-fn tell_asked(
-    asked: AskAnswer,
-    place: &mut [u64],
-    found: &mut [i64],
-    settings: &mut [u32],
-    told: &mut [i64],
-) -> u32
-    requires { (6 ≤ length found.old) × (4 ≤ length settings.old) × (5 ≤ length told.old) }
-    ensures tells { Tells context_words true (said_asked asked) told.old result told.new }
-    ensures written { Written (gives (session_asked asked)) place.old found.old settings.old place.new found.new settings.new }
-{
-    match asked {
-        AskAnswer::Is(waiting) => {
-            put_session(waiting.session, place, found, settings);
-            told[0] = waiting.context as i64;
+    match Session::open(
+        width,
+        header_of(header),
+        weights,
+        mask,
+        channel,
+        stream,
+        cells,
+        memory,
+    ) {
+        Ok(session) => {
+            put_session(session, place, found, settings);
             0
         }
-        AskAnswer::Refused(kept) => {
-            let refusal = kept.refusal;
-            put_session(kept.session, place, found, settings);
-            tell(refusal, told)
+        Err(refusal) => tell(refusal, told),
+    }
+}
+
+// 0 and the context as the first word, or what is told of the refusal.
+fn tell_asked(asked: Result<u32, Refusal>, told: &mut [i64]) -> u32
+    requires { 5 ≤ length told.old }
+    ensures { Tells context_words true (said asked) told.old result told.new }
+{
+    match asked {
+        Ok(context) => {
+            told[0] = context as i64;
+            0
         }
+        Err(refusal) => tell(refusal, told),
     }
 }
 
@@ -210,42 +154,13 @@ pub extern "C" fn matuviso_session_ask(
 ) -> u32
     ensures { AskTold header.now place.old found.old settings.old plane.now references.now records.now cells.old memory.now told.old result place.new found.new settings.new cells.new told.new }
 {
-    if !tell_session(
-        header.len(),
-        place.len(),
-        found.len(),
-        settings.len(),
-        told.len(),
-    ) {
+    if !tell_session(header, place, found, settings, told) {
         return 8;
     }
-    let session = session_of(header, place, found, settings);
+    let mut session = session_of(header, place, found, settings);
     let asked = session.ask(plane, references, records, cells, memory);
-    tell_asked(asked, place, found, settings, told)
-}
-
-fn tell_put(
-    put: PutAnswer,
-    place: &mut [u64],
-    found: &mut [i64],
-    settings: &mut [u32],
-    told: &mut [i64],
-) -> u32
-    requires { (6 ≤ length found.old) × (4 ≤ length settings.old) × (5 ≤ length told.old) }
-    ensures tells { Tells nothing true (said_put put) told.old result told.new }
-    ensures written { Written (gives (session_put put)) place.old found.old settings.old place.new found.new settings.new }
-{
-    match put {
-        PutAnswer::Done(next) => {
-            put_session(next, place, found, settings);
-            0
-        }
-        PutAnswer::Refused(kept) => {
-            let refusal = kept.refusal;
-            put_session(kept.session, place, found, settings);
-            tell(refusal, told)
-        }
-    }
+    put_session(session, place, found, settings);
+    tell_asked(asked, told)
 }
 
 // The residual of the pixel that was asked for, and the session as it is then.
@@ -262,42 +177,25 @@ pub extern "C" fn matuviso_session_put(
 ) -> u32
     ensures { PutTold header.now place.old found.old settings.old «residual» plane.old memory.old told.old result place.new found.new settings.new plane.new memory.new told.new }
 {
-    if !tell_session(
-        header.len(),
-        place.len(),
-        found.len(),
-        settings.len(),
-        told.len(),
-    ) {
+    if !tell_session(header, place, found, settings, told) {
         return 8;
     }
-    let session = session_of(header, place, found, settings);
+    let mut session = session_of(header, place, found, settings);
     let put = session.put(residual, plane, memory);
-    tell_put(put, place, found, settings, told)
+    put_session(session, place, found, settings);
+    tell_done(put, told)
 }
 
-fn tell_row(
-    row: RowAnswer,
-    place: &mut [u64],
-    found: &mut [i64],
-    settings: &mut [u32],
-    told: &mut [i64],
-) -> u32
-    requires { (6 ≤ length found.old) × (4 ≤ length settings.old) × (6 ≤ length told.old) }
-    ensures end_told { EndTold true (said row) told.old result told.new }
-    ensures written { Written (gives (end_session (said row))) place.old found.old settings.old place.new found.new settings.new }
+// 0, or what is told of the refusal, with how many pixels were put before it as the sixth word.
+fn tell_row(row: Result<(), Stopped>, told: &mut [i64]) -> u32
+    requires { 6 ≤ length told.old }
+    ensures { EndTold true (rows.said row) told.old result told.new }
 {
     match row {
-        RowAnswer::Done(next) => {
-            put_session(next, place, found, settings);
-            0
-        }
-        RowAnswer::Refused(halted) => {
-            let refusal = halted.refusal;
-            let pixels = halted.pixels;
-            put_session(halted.session, place, found, settings);
-            let number = tell(refusal, told);
-            told[5] = pixels as i64;
+        Ok(()) => 0,
+        Err(stopped) => {
+            let number = tell(stopped.refusal, told);
+            told[5] = stopped.pixels as i64;
             number
         }
     }
@@ -321,21 +219,20 @@ pub extern "C" fn matuviso_session_row(
 ) -> u32
     ensures { RowTold header.now place.old found.old settings.old residuals.now references.now records.now plane.old contexts.old cells.old memory.old told.old result place.new found.new settings.new plane.new contexts.new cells.new memory.new told.new }
 {
-    if told.len() < 6 {
+    if told.len() < 6 || !tell_session(header, place, found, settings, told) {
         return 8;
     }
-    if !tell_session(
-        header.len(),
-        place.len(),
-        found.len(),
-        settings.len(),
-        told.len(),
-    ) {
-        return 8;
-    }
-    let session = session_of(header, place, found, settings);
+    let mut session = session_of(header, place, found, settings);
     let row = unpack_row(
-        session, residuals, references, records, plane, contexts, cells, memory,
+        &mut session,
+        residuals,
+        references,
+        records,
+        plane,
+        contexts,
+        cells,
+        memory,
     );
-    tell_row(row, place, found, settings, told)
+    put_session(session, place, found, settings);
+    tell_row(row, told)
 }

@@ -3,36 +3,12 @@
 // there must be room for five. A list that is too short is 8, before all else, and nothing is written.
 #![tactic(auto)]
 
-ghost use Rattle.std.specs.Prelude.{◌≡◌, length, ◌≤◌, true};
-ghost use Rattle.cells.specs.Cells.{said};
-ghost use Rattle.validation.specs.Verdict.{said_verdict};
-ghost use Rattle.told.specs.Told.{Tells, nothing};
 ghost use Rattle.lab_tree.specs.Told.{MaskTold, ShapeTold, ValidTold, FillTold};
 
-use cells::{Filled, compute_properties};
-use nodes::mask::{Masked, compute_used_property_mask};
-use told::{take_seven, tell};
-use validation::{Verdict, check_shape, validate_tree};
-
-fn tell_verdict(verdict: Verdict, told: &mut [i64]) -> u32
-    requires { 5 ≤ length told.old }
-    ensures { Tells nothing true (said_verdict verdict) told.old result told.new }
-{
-    match verdict {
-        Verdict::Accepted => 0,
-        Verdict::Refused(refusal) => tell(refusal, told),
-    }
-}
-
-fn tell_filled(filled: Filled, told: &mut [i64]) -> u32
-    requires { 5 ≤ length told.old }
-    ensures { Tells nothing true (said «filled») told.old result told.new }
-{
-    match filled {
-        Filled::Done => 0,
-        Filled::Refused(refusal) => tell(refusal, told),
-    }
-}
+use cells::compute_properties;
+use nodes::mask::compute_used_property_mask;
+use told::{take_seven, tell, tell_done};
+use validation::{check_shape, validate_tree};
 
 // The mask as the first word told.
 #[unsafe(no_mangle)]
@@ -42,13 +18,12 @@ pub extern "C" fn matuviso_property_mask(words: &[i32], told: &mut [i64]) -> u32
     if told.len() < 5 {
         return 8;
     }
-    let masked = compute_used_property_mask(words);
-    match masked {
-        Masked::Is(mask) => {
+    match compute_used_property_mask(words) {
+        Ok(mask) => {
             told[0] = mask as i64;
             0
         }
-        Masked::Refused(refusal) => tell(refusal, told),
+        Err(refusal) => tell(refusal, told),
     }
 }
 
@@ -59,7 +34,7 @@ pub extern "C" fn matuviso_check_shape(words: &[i32], told: &mut [i64]) -> u32
     if told.len() < 5 {
         return 8;
     }
-    tell_verdict(check_shape(words), told)
+    tell_done(check_shape(words), told)
 }
 
 #[unsafe(no_mangle)]
@@ -69,7 +44,7 @@ pub extern "C" fn matuviso_validate_tree(words: &[i32], work: &mut [i32], told: 
     if told.len() < 5 {
         return 8;
     }
-    tell_verdict(validate_tree(words, work), told)
+    tell_done(validate_tree(words, work), told)
 }
 
 // Fills the cells of a pixel whose neighbours are the seven of `data`.
@@ -86,12 +61,9 @@ pub extern "C" fn matuviso_compute_properties(
 ) -> u32
     ensures { FillTold mask x y «data».now wp_property references.now cells.old told.old result cells.new told.new }
 {
-    if data.len() < 7 {
-        return 8;
-    }
-    if told.len() < 5 {
+    if data.len() < 7 || told.len() < 5 {
         return 8;
     }
     let filled = compute_properties(mask, x, y, take_seven(data), wp_property, references, cells);
-    tell_filled(filled, told)
+    tell_done(filled, told)
 }

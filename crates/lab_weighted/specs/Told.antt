@@ -5,11 +5,10 @@ use Rattle.blend.specs.Blend.{defaults}
 use Rattle.blend.specs.declared.Found.{Found}
 use Rattle.blend.specs.declared.WeightedHeader.{WeightedHeader}
 use Rattle.integer.specs.Order.{if}
-use Rattle.predict.specs.declared.neighbours.PredictionData.{PredictionData}
+use Rattle.told.specs.Told.{data_of}
 use Rattle.refusal.specs.Paper.{Outcome, gives, refuses, one_value}
 use Rattle.weighted.specs.Saved.{saved_words, saved_word, restored_word, copies, after_copy}
-use Rattle.weighted.specs.State.{test, nothing, opens, cleared, asks, puts, after_put}
-use Rattle.weighted.specs.declared.state.Answer.{Answer}
+use Rattle.weighted.specs.State.{Answered, test, nothing, opens, cleared, asks, puts, after_put}
 use Rattle.weighted.specs.declared.state.WeightedState.{WeightedState}
 
 -- ---- lists read
@@ -46,17 +45,6 @@ found_of words =
     })
     nothing
 
-abbrev pub data_of : List ℤ → PredictionData
-data_of words = record {
-  left = get_or words 0 (pos 0);
-  top = get_or words 1 (pos 0);
-  toptop = get_or words 2 (pos 0);
-  topleft = get_or words 3 (pos 0);
-  topright = get_or words 4 (pos 0);
-  leftleft = get_or words 5 (pos 0);
-  toprightright = get_or words 6 (pos 0);
-}
-
 unfoldable pub state_of : List ℕ → List ℕ → List ℤ → WeightedState
 state_of header place found = record {
   header = header_of header;
@@ -83,7 +71,7 @@ placed s words = if (leb 4 (length words)) (s.width ∷ s.x ∷ s.y ∷ if s.ask
 abbrev pub found_put : Found → List ℤ → List ℤ
 found_put f words = if (leb 5 (length words)) (f.p0 ∷ f.p1 ∷ f.p2 ∷ f.p3 ∷ f.pred ∷ drop 5 words) words
 
-abbrev pub answer_put : Answer → List ℤ → List ℤ
+abbrev pub answer_put : Answered → List ℤ → List ℤ
 answer_put a words = a.guess ∷ a.property ∷ drop 2 words
 
 abbrev pub done_or : {A : Type 0} → Outcome A → ℕ
@@ -106,17 +94,17 @@ pub record OpenTold (header : List ℕ) (width : ℕ) (m : List ℕ) (r : ℕ) (
 
 -- ---- ask
 
-abbrev pub asked : List ℕ → List ℕ → List ℤ → List ℕ → List ℤ → List ℤ → Outcome Answer
+abbrev pub asked : List ℕ → List ℕ → List ℤ → List ℕ → List ℤ → List ℤ → Outcome Answered
 asked header place found m d answer =
     told header place found
     (test (leb 7 (length d)) 8 0
     (test (leb 2 (length answer)) 8 0
     (asks (state_of header place found) m (data_of d))))
 
-abbrev pub place_asked : List ℕ → Outcome Answer → List ℕ
+abbrev pub place_asked : List ℕ → Outcome Answered → List ℕ
 place_asked place o = after (λ a. placed a.state) o place
 
-abbrev pub found_asked : List ℤ → Outcome Answer → List ℤ
+abbrev pub found_asked : List ℤ → Outcome Answered → List ℤ
 found_asked found o = after (λ a. found_put a.state.found) o found
 
 pub record AskTold (header place : List ℕ) (found : List ℤ) (m : List ℕ) (d answer : List ℤ) (r : ℕ) (place' : List ℕ) (found' answer' : List ℤ) : Type 0 where

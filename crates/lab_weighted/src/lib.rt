@@ -5,18 +5,15 @@
 // refusal's number, 8 first where a list is too short; a refusal writes nothing.
 #![tactic(auto)]
 
-ghost use Rattle.std.specs.Prelude.{◌≡◌, length, ◌≤◌};
-ghost use Rattle.integer.specs.Order.{if};
-ghost use Rattle.weighted.specs.Saved.{said_copied};
+ghost use Rattle.std.specs.Prelude.{◌≡◌, ◌∷◌, length, drop, ◌≤◌};
+ghost use Rattle.refusal.specs.Paper.{said};
 ghost use Rattle.lab_weighted.specs.Told.{
   header_of,
   found_of,
-  data_of,
   state_of,
   tell,
   placed,
   found_put,
-  answer_put,
   done_or,
   OpenTold,
   AskTold,
@@ -26,11 +23,12 @@ ghost use Rattle.lab_weighted.specs.Told.{
 };
 
 use blend::{Found, WeightedHeader};
-use predict::neighbours::PredictionData;
-use weighted::saving::Copied;
-use weighted::state::{Answer, Asked, Opened, Put, WeightedState};
+use refusal::Refusal;
+use told::take_seven;
+use weighted::state::{Answer, WeightedState};
 
 // The eleven values, or the defaults where there are fewer.
+#[tactic(auto, unfolding(crate::specs::Told::header_of))]
 pub fn header_of(words: &[u32]) -> WeightedHeader
     ensures { result ≡ header_of words.now }
 {
@@ -53,6 +51,7 @@ pub fn header_of(words: &[u32]) -> WeightedHeader
 }
 
 // The five values, 0 where there are fewer.
+#[tactic(auto, unfolding(crate::specs::Told::found_of))]
 pub fn found_of(words: &[i64]) -> Found
     ensures { result ≡ found_of words.now }
 {
@@ -74,55 +73,26 @@ pub fn found_of(words: &[i64]) -> Found
     }
 }
 
-fn data_of(words: &[i32]) -> PredictionData
-    requires { 7 ≤ length words.now }
-    ensures { result ≡ data_of words.now }
-{
-    PredictionData {
-        left: words[0],
-        top: words[1],
-        toptop: words[2],
-        topleft: words[3],
-        topright: words[4],
-        leftleft: words[5],
-        toprightright: words[6],
-    }
-}
-
 // Whether lists of these lengths tell a state.
 fn tell(header: usize, place: usize, found: usize) -> bool
     ensures { result ≡ tell header place found }
 {
-    if header < 11 {
-        return false;
-    }
-    if place < 4 {
-        return false;
-    }
-    5 <= found
+    11 <= header && 4 <= place && 5 <= found
 }
 
+#[tactic(auto, unfolding(crate::specs::Told::state_of))]
 fn state_of(header: &[u32], place: &[u64], found: &[i64]) -> WeightedState
     requires { (11 ≤ length header.now) × (4 ≤ length place.now) × (5 ≤ length found.now) }
     ensures { result ≡ state_of header.now place.now found.now }
 {
-    let known = header_of(header);
-    let before = found_of(found);
     WeightedState {
-        header: known,
+        header: header_of(header),
         width: place[0] as usize,
         x: place[1] as usize,
         y: place[2] as usize,
         asked: place[3] != 0,
-        found: before,
+        found: found_of(found),
     }
-}
-
-// Whether an ask waits, as a word.
-fn flag(asked: bool) -> u64
-    ensures { result ≡ if asked 1 0 }
-{
-    if asked { 1 } else { 0 }
 }
 
 // The state's place as the first four words, where there are as many.
@@ -135,7 +105,7 @@ pub fn put_place(state: WeightedState, place: &mut [u64])
     place[0] = state.width as u64;
     place[1] = state.x as u64;
     place[2] = state.y as u64;
-    place[3] = flag(state.asked);
+    place[3] = state.asked as u64;
 }
 
 // What was found as the first five words, where there are as many.
@@ -145,26 +115,19 @@ pub fn put_found(given: Found, found: &mut [i64])
     if found.len() < 5 {
         return;
     }
-    let p0 = given.p0;
-    let p1 = given.p1;
-    let p2 = given.p2;
-    let p3 = given.p3;
-    let pred = given.pred;
-    found[0] = p0;
-    found[1] = p1;
-    found[2] = p2;
-    found[3] = p3;
-    found[4] = pred;
+    found[0] = given.p0;
+    found[1] = given.p1;
+    found[2] = given.p2;
+    found[3] = given.p3;
+    found[4] = given.pred;
 }
 
 fn put_answer(given: Answer, answer: &mut [i64])
     requires { 2 ≤ length answer.old }
-    ensures { answer.new ≡ answer_put given answer.old }
+    ensures { answer.new ≡ given.guess ∷ given.property ∷ drop 2 answer.old }
 {
-    let guess = given.guess;
-    let property = integer::widen(given.property);
-    answer[0] = guess;
-    answer[1] = property;
+    answer[0] = given.guess;
+    answer[1] = given.property as i64;
 }
 
 // Clears the memory of a state before the first pixel of a picture of this width.
@@ -174,10 +137,9 @@ pub fn matuviso_weighted_open(header: &[u32], width: usize, memory: &mut [u32]) 
     if header.len() < 11 {
         return 8;
     }
-    let opened = WeightedState::open(header_of(header), width, memory);
-    match opened {
-        Opened::Is(_) => 0,
-        Opened::Refused(refusal) => refusal.number(),
+    match WeightedState::open(header_of(header), width, memory) {
+        Ok(_) => 0,
+        Err(refusal) => refusal.number(),
     }
 }
 
@@ -192,29 +154,18 @@ pub fn matuviso_weighted_ask(
 ) -> u32
     ensures { AskTold header.now place.old found.old memory.now «data».now answer.old result place.new found.new answer.new }
 {
-    if !tell(header.len(), place.len(), found.len()) {
+    if !tell(header.len(), place.len(), found.len()) || data.len() < 7 || answer.len() < 2 {
         return 8;
     }
-    if data.len() < 7 {
-        return 8;
-    }
-    if answer.len() < 2 {
-        return 8;
-    }
-    let state = state_of(header, place, found);
-    let asked = state.ask(memory, data_of(data));
-    match asked {
-        Asked::Is(given) => {
-            let waiting = given.state;
-            put_place(waiting, place);
-            put_found(waiting.found, found);
+    let mut state = state_of(header, place, found);
+    match state.ask(memory, take_seven(data)) {
+        Ok(given) => {
+            put_place(state, place);
+            put_found(state.found, found);
             put_answer(given, answer);
             0
         }
-        Asked::Refused(kept) => {
-            let refusal = kept.refusal;
-            refusal.number()
-        }
+        Err(refusal) => refusal.number(),
     }
 }
 
@@ -231,26 +182,22 @@ pub fn matuviso_weighted_put(
     if !tell(header.len(), place.len(), found.len()) {
         return 8;
     }
-    let state = state_of(header, place, found);
-    let put = state.put(memory, value);
-    match put {
-        Put::Done(next) => {
-            put_place(next, place);
+    let mut state = state_of(header, place, found);
+    match state.put(memory, value) {
+        Ok(()) => {
+            put_place(state, place);
             0
         }
-        Put::Refused(kept) => {
-            let refusal = kept.refusal;
-            refusal.number()
-        }
+        Err(refusal) => refusal.number(),
     }
 }
 
-fn status(copied: Copied) -> u32
-    ensures { result ≡ done_or (said_copied copied) }
+fn status(answered: Result<(), Refusal>) -> u32
+    ensures { result ≡ done_or (said answered) }
 {
-    match copied {
-        Copied::Done => 0,
-        Copied::Refused(refusal) => refusal.number(),
+    match answered {
+        Ok(()) => 0,
+        Err(refusal) => refusal.number(),
     }
 }
 

@@ -3,11 +3,10 @@
 // room for five.
 #![tactic(auto)]
 
-ghost use Rattle.std.specs.Prelude.{◌≡◌, length, ◌≤◌};
-ghost use Rattle.refusal.specs.Paper.{number_of, details_of};
-ghost use Rattle.told.specs.Told.{begun, side_of, data_of};
+ghost use Rattle.std.specs.Prelude.{◌≡◌, length, ◌≤◌, true};
+ghost use Rattle.refusal.specs.Paper.{number_of, details_of, said};
+ghost use Rattle.told.specs.Told.{Tells, begun, data_of, nothing, side_of};
 
-use integer::widen;
 use predict::neighbours::PredictionData;
 use refusal::{Refusal, Side};
 
@@ -16,16 +15,13 @@ fn tell_side(side: Side, told: &mut [i64]) -> u32
     requires { 5 ≤ length told.old }
     ensures { (result ≡ 7) × (told.new ≡ begun (side_of side) told.old) }
 {
-    let place = side.place as i64;
-    let property = side.property as i64;
-    let value = widen(side.value);
-    let low = widen(side.low);
-    let high = widen(side.high);
-    told[0] = place;
-    told[1] = property;
-    told[2] = value;
-    told[3] = low;
-    told[4] = high;
+    told[..5].copy_from_slice(&[
+        side.place as i64,
+        side.property as i64,
+        side.value as i64,
+        side.low as i64,
+        side.high as i64,
+    ]);
     7
 }
 
@@ -40,6 +36,17 @@ pub fn tell(refusal: Refusal, told: &mut [i64]) -> u32
             told[0] = refusal.first_detail() as i64;
             refusal.number()
         }
+    }
+}
+
+// 0, or what is told of the refusal.
+pub fn tell_done(done: Result<(), Refusal>, told: &mut [i64]) -> u32
+    requires { 5 ≤ length told.old }
+    ensures { Tells nothing true (said done) told.old result told.new }
+{
+    match done {
+        Ok(()) => 0,
+        Err(refusal) => tell(refusal, told),
     }
 }
 

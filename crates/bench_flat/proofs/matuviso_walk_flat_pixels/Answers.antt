@@ -1,22 +1,21 @@
--- `matuviso_walk_flat_pixels` meets its promise: 8 where cells or neighbours are too few, else the guesses of the pixels.
-use borrow.Author.Tests.{lt-ltb, le-ltb}
-use mir.Facts.{to_z-of_z}
+-- `matuviso_walk_flat_pixels` meets its promise: a guess for each pixel.
+use lib.IntN.{pos}
+use lib.ListN.{length, get_or}
+use mathlib.Core.Path.{◌≡◌, sym, ◌∙◌}
+use mathlib.Core.Bool.{false}
+use Prim.Native.Nat.{ℕ, ◌<◌}
+use native.Mathlib.Omega.{arith}
+use Rattle.bench_flat.proofs.Guesses.{guessed}
+use Rattle.bench_flat.specs.Pixels.{flat_at, too_few}
 use Rattle.bench_flat.proofs.matuviso_walk_flat_pixels.Goals as goal
-
-pub returns-then-cells-guesses : goal.returns-then-cells-guesses
-returns-then-cells-guesses c = let few = lt-ltb _ _ c.if-cells-guesses.true in record { answers = simp few; holds = simp few }
-
-pub returns-then-data-guesses : goal.returns-then-data-guesses
-returns-then-data-guesses c =
-    let cells = le-ltb _ _ c.if-cells-guesses.false in
-    let few = lt-ltb _ _ c.if-data-guesses.true in
-    record { answers = simp (cells, few); holds = simp (cells, few) }
 
 pub returns : goal.returns
 returns c =
-    let cells = le-ltb _ _ c.if-cells-guesses.false in
-    let neighbours = le-ltb _ _ c.if-data-guesses.false in
+    let s = c.args in
+    let roomy : too_few (length s.cells.now) (length s.«data».now) (length s.guesses.now) ≡ false = sym c.too_few.ensures ∙ c.if-too_few.false in
+    let each : (k : ℕ) → k < length c.guess_all.new.guesses → get_or c.guess_all.new.guesses k (pos 0) ≡ flat_at s.words.now s.cells.now s.«data».now s.wp_pred k = λ k inside.
+    let one = c.guess_all.ensures k inside in grind (arith, one) in
     record {
-      answers = simp (cells, neighbours);
-      holds = simp (cells, neighbours) (simp (to_z-of_z c.ranges.wp_pred) at c.flat_all.ensures);
+      answers = simp roomy;
+      holds = simp roomy (guessed _ s.guesses.now c.guess_all.new.guesses (omega arith) each);
     }

@@ -8,4 +8,4 @@ returns-then-told-lt5 c = short (lt-leb _ _ c.if-told-lt5.true)
 
 pub returns : goal.returns
 returns c =
-    told_of (le-leb _ _ c.if-told-lt5.false) c.check_shape.ensures c.tell_verdict.ensures
+    told_of (le-leb _ _ c.if-told-lt5.false) c.check_shape.ensures c.tell_done.ensures

@@ -10,6 +10,6 @@ pub returns : goal.returns
 returns c =
     let long = le-leb _ _ c.if-told-lt5.false in
     record {
-      tells = told_of long c.validate_tree.ensures.answers c.tell_verdict.ensures;
+      tells = told_of long c.validate_tree.ensures.answers c.tell_done.ensures;
       holds = simp long c.validate_tree.ensures.leaves;
     }
