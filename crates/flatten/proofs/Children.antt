@@ -1,8 +1,9 @@
 -- The children of a split of a sound list are there, and its record says of them what reading them says.
 use lib.IntN.{ℤ}
 use lib.ListN.{length}
+use lib.Seq.{sets}
 use mathlib.Core.List.{List}
-use mathlib.Core.Path.{◌≡◌, refl}
+use mathlib.Core.Path.{◌≡◌, refl, ap, ◌∙◌}
 use native.Mathlib.Omega.{arith}
 use Prim.Native.Nat.{ℕ, ◌<◌}
 use Rattle.nodes.proofs.Read.{property_small}
@@ -29,16 +30,16 @@ as_value (gives (node.Leaf l)) place = refl
 as_value (refuses number details) place = refl
 
 module _ (words : List ℤ) where
-  pub as_record : (s : Split) (first : ℕ) {l r : Child} → l ≡ child_of (node_at words s.left) s.left → r ≡ child_of (node_at words s.right) s.right
+  as_record : (s : Split) (first : ℕ) {l r : Child} → l ≡ child_of (node_at words s.left) s.left → r ≡ child_of (node_at words s.right) s.right
       → split_words s l r first ≡ record_for words (gives (node.Split s)) first
   as_record s first is_left is_right =
       let l = node_at words s.left in
       let r = node_at words s.right in
       rw (is_left, is_right, as_property l s.left, as_property r s.right, as_value l s.left, as_value r s.right)
 
-  pub six_words : (n : Node) (first : ℕ) → length (record_for words (gives n) first) ≡ 6
-  six_words (node.Leaf l) first = refl
-  six_words (node.Split s) first = refl
+  pub as_stored : (s : Split) (first : ℕ) {l r : Child} → l ≡ child_of (node_at words s.left) s.left → r ≡ child_of (node_at words s.right) s.right
+      → (output : List ℤ) (at : ℕ) {output' : List ℤ} → output' ≡ sets output at (split_words s l r first) → output' ≡ sets output at (record_for words (gives (node.Split s)) first)
+  as_stored s first is_left is_right output at stored = stored ∙ ap (sets output at) (as_record s first is_left is_right)
 
   pub four_queued : (s : Split) → There words s.left → There words s.right → length (grandchildren words (gives (node.Split s))) ≡ 4
   four_queued s left right = rw (left.queues, right.queues)

@@ -6,4 +6,5 @@ pub mod Flat
 pub mod RingEnds
 pub mod Rounds
 pub mod Wide
+mod Words
 pub mod Writing

@@ -4,7 +4,6 @@ ghost use Rattle.std.proofs.lemmas.List.Edits.{sets};
 ghost use Rattle.nodes.specs.Nodes.{node_at};
 ghost use Rattle.refusal.specs.Paper.{gives};
 ghost use Rattle.nodes.specs.declared.Node.TheVariants as variant;
-ghost use Rattle.nodes.specs.declared.Split.{Split};
 ghost use Rattle.flatten.specs.Child.{child_of, split_words, Narrow, There};
 ghost use Rattle.flatten.specs.Queue.{grandchildren};
 ghost use Rattle.flatten.specs.Records.{record_size, leaf_words, record_for};
@@ -24,31 +23,28 @@ pub struct Child {
     pub two: u32,
 }
 
-fn leaf_words(leaf: Leaf) -> [i32; 6]
-    ensures { result ≡ leaf_words «leaf» }
+fn write_leaf(leaf: Leaf, output: &mut [i32], at: usize)
+    requires { at + record_size ≤ length output.old }
+    ensures { output.new ≡ sets output.old at (leaf_words «leaf») }
 {
-    [
-        -1,
-        leaf.predictor as i32,
-        from_bits(leaf.multiplier),
-        0,
-        from_bits(leaf.id),
-        (to_bits(leaf.offset) % 65536) as i32,
-    ]
+    output[at] = -1;
+    output[at + 1] = leaf.predictor as i32;
+    output[at + 2] = from_bits(leaf.multiplier);
+    output[at + 3] = 0;
+    output[at + 4] = from_bits(leaf.id);
+    output[at + 5] = (to_bits(leaf.offset) % 65536) as i32;
 }
 
-fn split_words(split: Split, left: Child, right: Child, first: usize) -> [i32; 6]
-    requires { («split».property < 256) × («left».property < 256) × («right».property < 256) × (first < 2147483648) }
-    ensures { result ≡ split_words «split» «left» «right» first }
+fn write_split(split: Split, left: Child, right: Child, first: usize, output: &mut [i32], at: usize)
+    requires { (at + record_size ≤ length output.old) × («split».property < 256) × («left».property < 256) × («right».property < 256) × (first < 2147483648) }
+    ensures { output.new ≡ sets output.old at (split_words «split» «left» «right» first) }
 {
-    [
-        split.property as i32,
-        split.value,
-        left.value,
-        right.value,
-        first as i32,
-        (left.property + 65536 * right.property) as i32,
-    ]
+    output[at] = split.property as i32;
+    output[at + 1] = split.value;
+    output[at + 2] = left.value;
+    output[at + 3] = right.value;
+    output[at + 4] = first as i32;
+    output[at + 5] = (left.property + 65536 * right.property) as i32;
 }
 
 // Of a split of a sound list: a child that is no split is a leaf.
@@ -83,35 +79,29 @@ fn queue_child(child: Child, ring: &mut Ring)
 }
 
 // A split's record stands for its two children as well, and queues theirs.
-fn split_record(words: &[i32], split: Split, first: usize, ring: &mut Ring) -> [i32; 6]
+fn write_three(
+    words: &[i32],
+    split: Split,
+    first: usize,
+    ring: &mut Ring,
+    output: &mut [i32],
+    at: usize,
+)
     requires there { There words.now «split».left × There words.now «split».right × («split».property < 256) × (first < 2147483648) }
-    requires ready { Ready (ends ring.old) ring.old.words.now × (ring.old.queued + 4 ≤ length ring.old.words.now) }
+    requires ready { Ready (ends ring.old) ring.old.words.now × (ring.old.queued + 4 ≤ length ring.old.words.now) × (at + record_size ≤ length output.old) }
     ensures same { ring.new.words.ghost_name ≡ ring.old.words.ghost_name }
     ensures puts { Puts (ends ring.old) ring.old.words.now (grandchildren words.now (gives (variant.Split «split»))) (ends ring.new) ring.new.words.now }
-    ensures record_words { result ≡ record_for words.now (gives (variant.Split «split»)) first }
+    ensures output_after { output.new ≡ sets output.old at (record_for words.now (gives (variant.Split «split»)) first) }
 {
     let left = read_child(words, split.left);
     let right = read_child(words, split.right);
+    write_split(split, left, right, first, output, at);
     queue_child(left, ring);
     queue_child(right, ring);
-    split_words(split, left, right, first)
 }
 
-// The record of a node, whose grandchildren are queued.
-fn node_record(words: &[i32], node: Node, first: usize, ring: &mut Ring) -> [i32; 6]
-    requires there { ((s : Split) → «node» ≡ variant.Split s → There words.now s.left × There words.now s.right × (s.property < 256)) × (first < 2147483648) }
-    requires ready { Ready (ends ring.old) ring.old.words.now × (ring.old.queued + length (grandchildren words.now (gives «node»)) ≤ length ring.old.words.now) }
-    ensures same { ring.new.words.ghost_name ≡ ring.old.words.ghost_name }
-    ensures puts { Puts (ends ring.old) ring.old.words.now (grandchildren words.now (gives «node»)) (ends ring.new) ring.new.words.now }
-    ensures record_words { result ≡ record_for words.now (gives «node») first }
-{
-    match node {
-        Node::Split(split) => split_record(words, split, first, ring),
-        Node::Leaf(leaf) => leaf_words(leaf),
-    }
-}
-
-// Record k, of the node at this place: written in its words, and its grandchildren queued.
+// Record k, of the node at this place: written in its words, and its grandchildren queued. Each word is stored at once: with a record made
+// first, and then copied, a tree took up to half as long again.
 pub fn write_record(words: &[i32], place: usize, k: usize, ring: &mut Ring, output: &mut [i32])
     requires sound_list { SoundList words.now × (place < length words.now / 5) × (record_size * k + record_size ≤ length output.old) × (k + ring.old.queued < 2147483647) }
     requires ready { Ready (ends ring.old) ring.old.words.now × (ring.old.queued + length (grandchildren words.now (node_at words.now place)) ≤ length ring.old.words.now) }
@@ -119,10 +109,12 @@ pub fn write_record(words: &[i32], place: usize, k: usize, ring: &mut Ring, outp
     ensures puts { Puts (ends ring.old) ring.old.words.now (grandchildren words.now (node_at words.now place)) (ends ring.new) ring.new.words.now }
     ensures output_after { output.new ≡ sets output.old (record_size * k) (record_for words.now (node_at words.now place) (k + ring.old.queued + 1)) }
 {
-    let Ok(node) = read_node(&words[5 * place..], place as u32) else {
-        return;
-    };
-    let first = k + ring.queued + 1;
-    let record = node_record(words, node, first, ring);
-    output[6 * k..6 * k + 6].copy_from_slice(&record);
+    match read_node(&words[5 * place..], place as u32) {
+        Ok(Node::Split(split)) => {
+            let first = k + ring.queued + 1;
+            write_three(words, split, first, ring, output, 6 * k);
+        }
+        Ok(Node::Leaf(leaf)) => write_leaf(leaf, output, 6 * k),
+        Err(_) => {}
+    }
 }

@@ -1,42 +1,28 @@
 -- `write_record` meets its contract: of the node that is read.
-use borrow.Rule.Slice.PartMut.{put_mid}
 use lib.IntN.{ℤ}
+use lib.ListN.{length}
 use mathlib.Core.List.{List}
 use mathlib.Core.Path.{◌≡◌, sym, ap, ◌∙◌}
 use native.Mathlib.Omega.{arith}
-use Prim.Native.Nat.{ℕ, ◌+◌, ◌*◌, ◌-◌, ◌<◌}
+use Prim.Native.Nat.{◌+◌, ◌*◌, ◌≤◌, ◌<◌}
 use Rattle.nodes.proofs.Lists.{rest}
 use Rattle.nodes.specs.Nodes.{node_at}
+use Rattle.nodes.specs.declared.Node.{Node}
+use Rattle.nodes.specs.declared.Node.TheVariants as node
 use Rattle.refusal.specs.Paper.{gives, said}
 use Rattle.validation.proofs.ToDo.{sound_list}
-use Rattle.flatten.specs.Records.{record_for}
-use Rattle.flatten.proofs.Children.{children_there, six_words}
-use Rattle.validation.proofs.Words.{copied}
+use Rattle.flatten.specs.Queue.{grandchildren}
+use Rattle.flatten.proofs.Children.{children_there, four_queued}
 use Rattle.flatten.proofs.records.write_record.Goals as goal
 
-pub node_record-record-requires : goal.node_record-record-requires
-node_record-record-requires c =
+pub write_three-requires : goal.write_three-requires
+write_three-requires c =
     let list : List ℤ = c.args.words.now in
+    let split = c.in-Ok-Split.split in
     let is_node : said c.read_node.result ≡ node_at list c.args.place = simp (rest list (5 * c.args.place)) at c.read_node.ensures in
-    let is : node_at list c.args.place ≡ gives c.in-Ok.node = sym is_node ∙ ap said c.in-Ok.is in
-    let sound = sound_list list c.requires.sound_list.0 in
+    let is : node_at list c.args.place ≡ gives (node.Split split) = sym is_node ∙ ap said c.in-Ok-Split.is ∙ ap (λ (n : Node). gives n) c.in-Ok-Split.field-0-is in
+    let there = children_there list (sound_list list c.requires.sound_list.0) c.args.place c.requires.sound_list.1 is in
     let first_small : c.args.k + c.args.ring.now.queued + 1 < 2147483648 = omega (arith, c.requires.sound_list.3) in
-    record {
-      there = (λ s split. children_there list sound c.args.place c.requires.sound_list.1 (is ∙ ap (λ n. gives n) split), first_small);
-      ready = (c.requires.ready.0, rw is at c.requires.ready.1);
-    }
-
-pub returns : goal.returns
-returns c =
-    let list : List ℤ = c.args.words.now in
-    let is_node : said c.read_node.result ≡ node_at list c.args.place = simp (rest list (5 * c.args.place)) at c.read_node.ensures in
-    let is : node_at list c.args.place ≡ gives c.in-Ok.node = sym is_node ∙ ap said c.in-Ok.is in
-    let at : ℕ = 6 * c.args.k in
-    let new : List ℤ = record_for list (gives c.in-Ok.node) (c.args.k + c.args.ring.now.queued + 1) in
-    let stored : c.copy_from_slice.new.self ≡ new = grind arith in
-    let put = c.node_record-record.ensures in
-    record {
-      same = put.same;
-      puts = rw is put.puts;
-      output_after = rw is (ap (put_mid at (at + 6 - at) c.args.output.now) stored ∙ copied c.args.output.now at 6 new (six_words list c.in-Ok.node _) c.requires.sound_list.2);
-    }
+    let room : c.args.ring.now.queued + length (grandchildren list (gives (node.Split split))) ≤ length c.args.ring.now.words.now = rw is at c.requires.ready.1 in
+    let enough : c.args.ring.now.queued + 4 ≤ length c.args.ring.now.words.now = omega (arith, room, four_queued list split there.0 there.1) in
+    record { there = (there.0, there.1, there.2, first_small); ready = (c.requires.ready.0, enough, c.requires.sound_list.2) }
