@@ -120,12 +120,10 @@ fn size(plane: &[i32], picture: bool) -> usize
 fn write_plane(rt: &impl Print, plane: &[i32], picture: bool) -> io::Result<()> {
     let mut buffer = [0u8; 65536];
     let size = size(plane, picture);
-    let mut from = 0;
-    while from < size {
+    for from in (0..size).step_by(65536) {
         let n = (size - from).min(65536);
         put_bytes(plane, picture, from, &mut buffer[..n]);
         rt.write_all(&buffer[..n])?;
-        from += n;
     }
     Ok(())
 }
