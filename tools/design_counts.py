@@ -37,31 +37,26 @@ def enums():
     return found
 
 
-def contracts():
-    """Facts that the contracts of three or more functions of a crate require."""
+def shared_in_a_crate(least, of):
+    """What `of` finds in the source of at least so many functions of one crate."""
     found = []
     for crate in sorted({f.split('/')[1] for f in sources}):
-        facts = collections.Counter()
-        for f, text in sources.items():
-            if f.split('/')[1] == crate:
-                for m in re.finditer(r'requires(?: \w+)? \{ (.*) \}', text):
-                    facts.update(part.strip('() ') for part in m.group(1).split(' × '))
-        found += [f'{crate}: {n} times {fact}' for fact, n in facts.items() if n >= 3]
+        times = collections.Counter(it for f, text in sources.items() if f.split('/')[1] == crate for it in of(text))
+        found += [f'{crate}: {n} times {it}' for it, n in times.items() if n >= least]
     return found
 
 
-def together():
-    """Sets of three parameters that five or more functions of a crate take."""
-    found = []
-    for crate in sorted({f.split('/')[1] for f in sources}):
-        sets = collections.Counter()
-        for f, text in sources.items():
-            if f.split('/')[1] == crate:
-                for m in re.finditer(r'fn \w+(?:<[^>]*>)?\(([^)]*)\)', text):
-                    named = sorted({p.strip() for p in m.group(1).replace('\n', ' ').split(',') if ':' in p})
-                    sets.update(itertools.combinations(named, 3))
-        found += [f'{crate}: {n} times {"; ".join(s)}' for s, n in sets.items() if n >= 5]
-    return found
+def facts(text):
+    """Each fact that a contract requires."""
+    for m in re.finditer(r'requires(?: \w+)? \{ (.*) \}', text):
+        yield from (part.strip('() ') for part in m.group(1).split(' × '))
+
+
+def threes(text):
+    """Each set of three parameters that a function takes."""
+    for m in re.finditer(r'fn \w+(?:<[^>]*>)?\(([^)]*)\)', text):
+        named = sorted({p.strip() for p in m.group(1).replace('\n', ' ').split(',') if ':' in p})
+        yield from ('; '.join(three) for three in itertools.combinations(named, 3))
 
 
 def states():
@@ -84,8 +79,8 @@ points = [
     ('4 conversions, minimum, maximum by functions of its own', lines(r'\b(widen|integer::min|integer::max)\(')),
     ('4 types with no more than Clone and Copy derived', lines(r'derive\(Clone, Copy\)\]')),
     ('4 tests by steps that return a literal', lines(r'return (true|false);')),
-    ('5 facts required by three or more functions of a crate', contracts()),
-    ('5 three parameters that five or more functions take', together()),
+    ('5 facts required by three or more functions of a crate', shared_in_a_crate(3, facts)),
+    ('5 three parameters that five or more functions take', shared_in_a_crate(5, threes)),
     ('5 functions that take a state by value', states()),
 ]
 for name, found in points:
