@@ -6,9 +6,8 @@
 mod weights;
 mod words;
 
-use std::io;
-
-fn main(rt: HostRuntime) -> io::Result<()> {
-    words::run(&rt)?;
-    weights::run(&rt)
+// That standard output cannot be written is told nowhere; the comparison with `stdout` finds it.
+fn main(rt: HostRuntime) {
+    words::run(&rt);
+    weights::run(&rt);
 }

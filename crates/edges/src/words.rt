@@ -1,7 +1,6 @@
 // 32-bit words: where a sum, a difference or a magnitude wraps, and how far a shift goes.
-use std::io;
 
-fn low_words(rt: &impl Print) -> io::Result<()> {
+fn low_words(rt: &impl Print) {
     for x in [
         2147483647,
         2147483648,
@@ -12,12 +11,11 @@ fn low_words(rt: &impl Print) -> io::Result<()> {
         9223372036854775807,
         -9223372036854775808,
     ] {
-        println!(rt; "low_word {x}: {}", integer::low_word(x))?;
+        let _ = println!(rt; "low_word {x}: {}", integer::low_word(x));
     }
-    Ok(())
 }
 
-fn sums(rt: &impl Print) -> io::Result<()> {
+fn sums(rt: &impl Print) {
     for (a, b) in [
         (2147483646, 1),
         (2147483647, 1),
@@ -26,12 +24,11 @@ fn sums(rt: &impl Print) -> io::Result<()> {
         (-2147483648, -1),
         (-2147483648, -2147483648),
     ] {
-        println!(rt; "wrapping_add {a} + {b}: {}", integer::wrapping_add(a, b))?;
+        let _ = println!(rt; "wrapping_add {a} + {b}: {}", integer::wrapping_add(a, b));
     }
-    Ok(())
 }
 
-fn differences(rt: &impl Print) -> io::Result<()> {
+fn differences(rt: &impl Print) {
     for (a, b) in [
         (-2147483647, 1),
         (-2147483648, 1),
@@ -40,20 +37,18 @@ fn differences(rt: &impl Print) -> io::Result<()> {
         (0, -2147483648),
         (-2147483648, 2147483647),
     ] {
-        println!(rt; "wrapping_sub {a} - {b}: {}", integer::wrapping_sub(a, b))?;
+        let _ = println!(rt; "wrapping_sub {a} - {b}: {}", integer::wrapping_sub(a, b));
     }
-    Ok(())
 }
 
-fn magnitudes(rt: &impl Print) -> io::Result<()> {
+fn magnitudes(rt: &impl Print) {
     for a in [0, -1, 2147483647, -2147483647, -2147483648] {
-        println!(rt; "wrapping_abs {a}: {}", integer::wrapping_abs(a))?;
+        let _ = println!(rt; "wrapping_abs {a}: {}", integer::wrapping_abs(a));
     }
-    Ok(())
 }
 
 // From a shift of 32 on nothing but the sign is left.
-fn shifts(rt: &impl Print) -> io::Result<()> {
+fn shifts(rt: &impl Print) {
     for (a, k) in [
         (-1, 1),
         (-3, 1),
@@ -68,42 +63,39 @@ fn shifts(rt: &impl Print) -> io::Result<()> {
         (2147483647, 40),
         (-2147483648, 4294967295),
     ] {
-        println!(rt; "shift_right {a} by {k}: {}", integer::shift_right(a, k))?;
+        let _ = println!(rt; "shift_right {a} by {k}: {}", integer::shift_right(a, k));
     }
-    Ok(())
 }
 
-fn patterns(rt: &impl Print) -> io::Result<()> {
+fn patterns(rt: &impl Print) {
     for a in [0, -1, 2147483647, -2147483648] {
-        println!(rt; "to_bits {a}: {}", integer::to_bits(a))?;
+        let _ = println!(rt; "to_bits {a}: {}", integer::to_bits(a));
     }
     for bits in [0, 2147483647, 2147483648, 4294967295] {
-        println!(rt; "from_bits {bits}: {}", integer::from_bits(bits))?;
+        let _ = println!(rt; "from_bits {bits}: {}", integer::from_bits(bits));
     }
-    Ok(())
 }
 
-fn orders(rt: &impl Print) -> io::Result<()> {
+fn orders(rt: &impl Print) {
     let pairs = [
         (-1, 0),
         (0, -1),
         (-9223372036854775808, 9223372036854775807),
     ];
     for (a, b) in pairs {
-        println!(rt; "min {a} {b}: {}", integer::min(a, b))?;
+        let _ = println!(rt; "min {a} {b}: {}", integer::min(a, b));
     }
     for (a, b) in pairs {
-        println!(rt; "max {a} {b}: {}", integer::max(a, b))?;
+        let _ = println!(rt; "max {a} {b}: {}", integer::max(a, b));
     }
-    Ok(())
 }
 
-pub fn run(rt: &impl Print) -> io::Result<()> {
-    low_words(rt)?;
-    sums(rt)?;
-    differences(rt)?;
-    magnitudes(rt)?;
-    shifts(rt)?;
-    patterns(rt)?;
-    orders(rt)
+pub fn run(rt: &impl Print) {
+    low_words(rt);
+    sums(rt);
+    differences(rt);
+    magnitudes(rt);
+    shifts(rt);
+    patterns(rt);
+    orders(rt);
 }

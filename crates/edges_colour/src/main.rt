@@ -5,8 +5,7 @@
 
 mod planes;
 
-use std::io;
-
-fn main(rt: HostRuntime) -> io::Result<()> {
-    planes::run(&rt)
+// That standard output cannot be written is told nowhere; the comparison with `stdout` finds it.
+fn main(rt: HostRuntime) {
+    planes::run(&rt);
 }

@@ -8,10 +8,9 @@ mod flattening;
 mod records;
 mod trees;
 
-use std::io;
-
-fn main(rt: HostRuntime) -> io::Result<()> {
-    flattening::run(&rt)?;
-    direct::run(&rt)?;
-    records::run(&rt)
+// That standard output cannot be written is told nowhere; the comparison with `stdout` finds it.
+fn main(rt: HostRuntime) {
+    flattening::run(&rt);
+    direct::run(&rt);
+    records::run(&rt);
 }

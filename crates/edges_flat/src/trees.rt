@@ -1,7 +1,6 @@
 // Trees, put into a list node by node, and what a walk answered.
 use predict::neighbours::PredictionData;
 use refusal::Refusal;
-use std::io;
 use walk::PredictionResult;
 
 // 15 nodes: the splits at properties 0 to 6, value 0, and all leaves at depth 3, each of predictor Zero, its offset as its id.
@@ -32,17 +31,17 @@ pub fn some() -> PredictionData {
     }
 }
 
-fn result(rt: &impl Print, res: PredictionResult) -> io::Result<()> {
-    print!(rt;
+fn result(rt: &impl Print, res: PredictionResult) {
+    let _ = print!(rt;
         ": {} multiplier={} context={} hops={}",
         res.guess, res.multiplier, res.context, res.hops
-    )
+    );
 }
 
-pub fn told(rt: &impl Print, walked: Result<PredictionResult, Refusal>) -> io::Result<()> {
+pub fn told(rt: &impl Print, walked: Result<PredictionResult, Refusal>) {
     match walked {
-        Ok(given) => result(rt, given)?,
-        Err(refusal) => print::refusal(rt, refusal)?,
+        Ok(given) => result(rt, given),
+        Err(refusal) => print::refusal(refusal),
     }
-    println!(rt)
+    let _ = println!(rt);
 }

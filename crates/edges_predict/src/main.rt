@@ -6,9 +6,8 @@
 mod neighbours;
 mod predictors;
 
-use std::io;
-
-fn main(rt: HostRuntime) -> io::Result<()> {
-    neighbours::run(&rt)?;
-    predictors::run(&rt)
+// That standard output cannot be written is told nowhere; the comparison with `stdout` finds it.
+fn main(rt: HostRuntime) {
+    neighbours::run(&rt);
+    predictors::run(&rt);
 }

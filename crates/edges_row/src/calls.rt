@@ -3,7 +3,6 @@ use blend::WeightedHeader;
 use refusal::Refusal;
 use row::{Stopped, unpack_row};
 use session::Session;
-use std::io;
 
 // What opening answers for width 2 and the default header.
 pub fn opened(weights: bool, mask: u32) -> Result<Session, Refusal> {
@@ -50,37 +49,35 @@ pub fn closed(session: Session) -> Session {
     next
 }
 
-fn place(rt: &impl Print, session: &Session) -> io::Result<()> {
+fn place(rt: &impl Print, session: &Session) {
     let weighted = &session.weighted;
-    print!(rt; " x={} y={}", weighted.x, weighted.y)?;
+    let _ = print!(rt; " x={} y={}", weighted.x, weighted.y);
     if session.weights {
-        print!(rt; " weights")?;
+        let _ = print!(rt; " weights");
     }
     if !weighted.header.in_range() {
-        print!(rt; " p1c=32")?;
+        let _ = print!(rt; " p1c=32");
     }
     if weighted.asked {
-        print!(rt; " asked")?;
+        let _ = print!(rt; " asked");
     }
     if !session.live {
-        print!(rt; " closed")?;
+        let _ = print!(rt; " closed");
     }
-    Ok(())
 }
 
-fn told(rt: &impl Print, session: &Session, answer: Result<(), Stopped>) -> io::Result<()> {
+fn told(rt: &impl Print, session: &Session, answer: Result<(), Stopped>) {
     match answer {
         Ok(()) => {
-            print!(rt; ": done, next")?;
-            place(rt, session)
+            let _ = print!(rt; ": done, next");
+            place(rt, session);
         }
         Err(stopped) => {
-            print::refusal(rt, stopped.refusal)?;
-            print!(rt; " pixels={}", stopped.pixels)?;
+            print::refusal(stopped.refusal);
+            let _ = print!(rt; " pixels={}", stopped.pixels);
             if !session.live {
-                print!(rt; ", closed")?;
+                let _ = print!(rt; ", closed");
             }
-            Ok(())
         }
     }
 }
@@ -96,10 +93,10 @@ pub fn row(
     contexts: &mut [u32],
     cells: &mut [i32],
     memory: &mut [u32],
-) -> io::Result<()> {
-    print!(rt; "row")?;
-    place(rt, session)?;
-    print!(rt;
+) {
+    let _ = print!(rt; "row");
+    place(rt, session);
+    let _ = print!(rt;
         " plane={} residuals={} contexts={} references={} records={} memory={} cells={}",
         plane.len(),
         residuals.len(),
@@ -108,15 +105,15 @@ pub fn row(
         records.len(),
         memory.len(),
         cells.len()
-    )?;
+    );
     let answer = unpack_row(
         session, residuals, references, records, plane, contexts, cells, memory,
     );
-    told(rt, session, answer)?;
-    print!(rt; "; ")?;
-    print::words(rt, plane)?;
-    print::naturals(rt, contexts)?;
-    print!(rt; " ")?;
-    print::words(rt, cells)?;
-    println!(rt)
+    told(rt, session, answer);
+    let _ = print!(rt; "; ");
+    print::words(plane);
+    print::naturals(contexts);
+    let _ = print!(rt; " ");
+    print::words(cells);
+    let _ = println!(rt);
 }

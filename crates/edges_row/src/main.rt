@@ -7,9 +7,8 @@ mod calls;
 mod refusing;
 mod unpacking;
 
-use std::io;
-
-fn main(rt: HostRuntime) -> io::Result<()> {
-    unpacking::run(&rt)?;
-    refusing::run(&rt)
+// That standard output cannot be written is told nowhere; the comparison with `stdout` finds it.
+fn main(rt: HostRuntime) {
+    unpacking::run(&rt);
+    refusing::run(&rt);
 }

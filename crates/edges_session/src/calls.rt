@@ -2,7 +2,6 @@
 use blend::WeightedHeader;
 use refusal::Refusal;
 use session::Session;
-use std::io;
 use weighted::state::WeightedState;
 
 // A session at a place, as asks and puts leave it.
@@ -40,33 +39,32 @@ pub fn leaf(multiplier: i32, context: i32, offset: i32) -> [i32; 6] {
     [-1, 0, multiplier, 0, context, offset]
 }
 
-fn place(rt: &impl Print, session: &Session) -> io::Result<()> {
+fn place(rt: &impl Print, session: &Session) {
     let weighted = &session.weighted;
-    print!(rt;
+    let _ = print!(rt;
         " width={} x={} y={}",
         weighted.width, weighted.x, weighted.y
-    )?;
+    );
     if session.weights {
-        print!(rt; " weights")?;
+        let _ = print!(rt; " weights");
     }
     if !weighted.header.in_range() {
-        print!(rt; " p1c=32")?;
+        let _ = print!(rt; " p1c=32");
     }
     if weighted.asked {
-        print!(rt; " asked")?;
+        let _ = print!(rt; " asked");
     }
     if !session.live {
-        print!(rt; " closed")?;
+        let _ = print!(rt; " closed");
     }
-    Ok(())
 }
 
-fn refused(rt: &impl Print, session: &Session, refusal: Refusal) -> io::Result<()> {
-    print::refusal(rt, refusal)?;
+fn refused(rt: &impl Print, session: &Session, refusal: Refusal) {
+    print::refusal(refusal);
     if !session.live {
-        print!(rt; ", closed")?;
+        let _ = print!(rt; ", closed");
     }
-    print!(rt; "; ")
+    let _ = print!(rt; "; ");
 }
 
 // The cells are told.
@@ -78,23 +76,25 @@ pub fn ask(
     records: &[i32],
     cells: &mut [i32],
     memory: &[u32],
-) -> io::Result<()> {
-    print!(rt; "ask")?;
-    place(rt, session)?;
-    print!(rt;
+) {
+    let _ = print!(rt; "ask");
+    place(rt, session);
+    let _ = print!(rt;
         " plane={} references={} records={} memory={} cells={}",
         plane.len(),
         references.len(),
         records.len(),
         memory.len(),
         cells.len()
-    )?;
+    );
     match session.ask(plane, references, records, cells, memory) {
-        Ok(context) => print!(rt; ": context {context}; ")?,
-        Err(refusal) => refused(rt, session, refusal)?,
+        Ok(context) => {
+            let _ = print!(rt; ": context {context}; ");
+        }
+        Err(refusal) => refused(rt, session, refusal),
     }
-    print::words(rt, cells)?;
-    println!(rt)
+    print::words(cells);
+    let _ = println!(rt);
 }
 
 // The plane is told.
@@ -104,20 +104,22 @@ pub fn put(
     residual: i32,
     plane: &mut [i32],
     memory: &mut [u32],
-) -> io::Result<()> {
-    print!(rt; "put")?;
-    place(rt, session)?;
-    print!(rt;
+) {
+    let _ = print!(rt; "put");
+    place(rt, session);
+    let _ = print!(rt;
         " residual={residual} memory={} plane={}",
         memory.len(),
         plane.len()
-    )?;
+    );
     match session.put(residual, plane, memory) {
-        Ok(()) => print!(rt; ": done; ")?,
-        Err(refusal) => refused(rt, session, refusal)?,
+        Ok(()) => {
+            let _ = print!(rt; ": done; ");
+        }
+        Err(refusal) => refused(rt, session, refusal),
     }
-    print::words(rt, plane)?;
-    println!(rt)
+    print::words(plane);
+    let _ = println!(rt);
 }
 
 // Ask and put, without references.
@@ -129,7 +131,7 @@ pub fn pixel(
     records: &[i32],
     cells: &mut [i32],
     memory: &mut [u32],
-) -> io::Result<()> {
-    ask(rt, session, plane, &[], records, cells, memory)?;
-    put(rt, session, residual, plane, memory)
+) {
+    ask(rt, session, plane, &[], records, cells, memory);
+    put(rt, session, residual, plane, memory);
 }

@@ -11,12 +11,11 @@ mod closing;
 mod opening;
 mod putting;
 
-use std::io;
-
-fn main(rt: HostRuntime) -> io::Result<()> {
-    opening::run(&rt)?;
-    asking::run(&rt)?;
-    putting::run(&rt)?;
-    closing::run(&rt)?;
-    channels::run(&rt)
+// That standard output cannot be written is told nowhere; the comparison with `stdout` finds it.
+fn main(rt: HostRuntime) {
+    opening::run(&rt);
+    asking::run(&rt);
+    putting::run(&rt);
+    closing::run(&rt);
+    channels::run(&rt);
 }

@@ -4,7 +4,6 @@ ghost use Rattle.std.specs.Prelude.{◌≤◌};
 
 use blend::WeightedHeader;
 use session::Session;
-use std::io;
 
 fn open(
     rt: &impl Print,
@@ -13,20 +12,22 @@ fn open(
     weights: bool,
     cells: &mut [i32],
     memory: &mut [u32],
-) -> io::Result<()> {
-    print!(rt; "open p1c={} w0={} width={width}", header.p1c, header.w0)?;
+) {
+    let _ = print!(rt; "open p1c={} w0={} width={width}", header.p1c, header.w0);
     if weights {
-        print!(rt; " weights")?;
+        let _ = print!(rt; " weights");
     }
-    print!(rt; " memory={} cells={}", memory.len(), cells.len())?;
+    let _ = print!(rt; " memory={} cells={}", memory.len(), cells.len());
     match Session::open(width, header, weights, 4294967295, -3, 8, cells, memory) {
-        Ok(_) => print!(rt; ": opened")?,
-        Err(refusal) => print::refusal(rt, refusal)?,
+        Ok(_) => {
+            let _ = print!(rt; ": opened");
+        }
+        Err(refusal) => print::refusal(refusal),
     }
-    print!(rt; "; ")?;
-    print::words(rt, cells)?;
-    print::naturals(rt, memory)?;
-    println!(rt)
+    let _ = print!(rt; "; ");
+    print::words(cells);
+    print::naturals(memory);
+    let _ = println!(rt);
 }
 
 // With so many of 17 cells and 31 words.
@@ -37,7 +38,7 @@ fn lent(
     weights: bool,
     cells_lent: usize,
     memory_lent: usize,
-) -> io::Result<()>
+)
     requires { (cells_lent ≤ 17) × (memory_lent ≤ 31) }
 {
     let mut cells = [7i32; 17];
@@ -49,7 +50,7 @@ fn lent(
         weights,
         &mut cells[0..cells_lent],
         &mut memory[0..memory_lent],
-    )
+    );
 }
 
 fn p_of(p: u32) -> WeightedHeader {
@@ -65,47 +66,47 @@ fn w_of(w: u32) -> WeightedHeader {
 }
 
 // Weights off do not make a header sound.
-fn headers(rt: &impl Print) -> io::Result<()> {
-    lent(rt, p_of(31), 1, true, 16, 30)?;
-    lent(rt, p_of(32), 1, true, 16, 30)?;
-    lent(rt, p_of(32), 1, false, 16, 0)?;
-    lent(rt, w_of(15), 1, true, 16, 30)?;
-    lent(rt, w_of(16), 1, true, 16, 30)
+fn headers(rt: &impl Print) {
+    lent(rt, p_of(31), 1, true, 16, 30);
+    lent(rt, p_of(32), 1, true, 16, 30);
+    lent(rt, p_of(32), 1, false, 16, 0);
+    lent(rt, w_of(15), 1, true, 16, 30);
+    lent(rt, w_of(16), 1, true, 16, 30);
 }
 
-fn widths(rt: &impl Print) -> io::Result<()> {
-    lent(rt, p_of(16), 0, false, 16, 0)?;
-    lent(rt, p_of(16), 65536, false, 16, 0)?;
-    lent(rt, p_of(16), 65537, false, 16, 0)?;
-    lent(rt, p_of(16), 65536, true, 16, 30)?;
-    lent(rt, p_of(16), 65537, true, 16, 30)
+fn widths(rt: &impl Print) {
+    lent(rt, p_of(16), 0, false, 16, 0);
+    lent(rt, p_of(16), 65536, false, 16, 0);
+    lent(rt, p_of(16), 65537, false, 16, 0);
+    lent(rt, p_of(16), 65536, true, 16, 30);
+    lent(rt, p_of(16), 65537, true, 16, 30);
 }
 
 // With weights off none is needed, and none is cleared.
-fn memories(rt: &impl Print) -> io::Result<()> {
-    lent(rt, p_of(16), 1, true, 16, 29)?;
-    lent(rt, p_of(16), 1, true, 16, 31)?;
-    lent(rt, p_of(16), 1, false, 16, 31)
+fn memories(rt: &impl Print) {
+    lent(rt, p_of(16), 1, true, 16, 29);
+    lent(rt, p_of(16), 1, true, 16, 31);
+    lent(rt, p_of(16), 1, false, 16, 31);
 }
 
-fn cells(rt: &impl Print) -> io::Result<()> {
-    lent(rt, p_of(16), 1, false, 15, 0)?;
-    lent(rt, p_of(16), 1, false, 17, 0)?;
-    lent(rt, p_of(16), 1, false, 0, 0)
+fn cells(rt: &impl Print) {
+    lent(rt, p_of(16), 1, false, 15, 0);
+    lent(rt, p_of(16), 1, false, 17, 0);
+    lent(rt, p_of(16), 1, false, 0, 0);
 }
 
 // A fault less each time.
-fn order(rt: &impl Print) -> io::Result<()> {
-    lent(rt, p_of(32), 0, true, 15, 29)?;
-    lent(rt, p_of(16), 0, true, 15, 29)?;
-    lent(rt, p_of(16), 1, true, 15, 29)?;
-    lent(rt, p_of(16), 1, true, 15, 30)
+fn order(rt: &impl Print) {
+    lent(rt, p_of(32), 0, true, 15, 29);
+    lent(rt, p_of(16), 0, true, 15, 29);
+    lent(rt, p_of(16), 1, true, 15, 29);
+    lent(rt, p_of(16), 1, true, 15, 30);
 }
 
-pub fn run(rt: &impl Print) -> io::Result<()> {
-    headers(rt)?;
-    widths(rt)?;
-    memories(rt)?;
-    cells(rt)?;
-    order(rt)
+pub fn run(rt: &impl Print) {
+    headers(rt);
+    widths(rt);
+    memories(rt);
+    cells(rt);
+    order(rt);
 }

@@ -9,12 +9,11 @@ mod masks;
 mod shape;
 mod visit;
 
-use std::io;
-
-fn main(rt: HostRuntime) -> io::Result<()> {
-    masks::run(&rt)?;
-    shape::run(&rt)?;
-    visit::run(&rt)?;
-    chains::run(&rt)?;
-    fill::run(&rt)
+// That standard output cannot be written is told nowhere; the comparison with `stdout` finds it.
+fn main(rt: HostRuntime) {
+    masks::run(&rt);
+    shape::run(&rt);
+    visit::run(&rt);
+    chains::run(&rt);
+    fill::run(&rt);
 }

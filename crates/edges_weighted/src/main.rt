@@ -8,11 +8,10 @@ mod opening;
 mod pixels;
 mod saving;
 
-use std::io;
-
-fn main(rt: HostRuntime) -> io::Result<()> {
-    opening::run(&rt)?;
-    pixels::run(&rt)?;
-    memory::run(&rt)?;
-    saving::run(&rt)
+// That standard output cannot be written is told nowhere; the comparison with `stdout` finds it.
+fn main(rt: HostRuntime) {
+    opening::run(&rt);
+    pixels::run(&rt);
+    memory::run(&rt);
+    saving::run(&rt);
 }
