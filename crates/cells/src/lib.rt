@@ -106,6 +106,17 @@ fn fill_weighted(mask: u32, wp_property: i32, cells: &mut [i32])
     }
 }
 
+// Word after word. std's `copy_from_slice` would ask a C library for memmove, which a board need not have.
+fn copy(from: &[i32], to: &mut [i32])
+    requires { length to.old ≡ length from.now }
+    ensures { to.new ≡ from.now }
+{
+    for i in 0..from.len() {
+        let word = from[i];
+        to[i] = word;
+    }
+}
+
 // From 16 the reference row.
 fn fill_references(mask: u32, references: &[i32], cells: &mut [i32])
     requires { (16 ≤ length cells.old) × Holds mask (length references.now) (length cells.old) }
@@ -113,7 +124,7 @@ fn fill_references(mask: u32, references: &[i32], cells: &mut [i32])
 {
     if uses(mask, 16, 16) {
         let end = 16 + references.len();
-        cells[16..end].copy_from_slice(references);
+        copy(references, &mut cells[16..end]);
     }
 }
 

@@ -117,6 +117,8 @@ fn size(plane: &[i32], picture: bool) -> usize
     }
 }
 
+// Not inlined: its buffer would lie on the stack beside those of the caller and of what the caller reads with.
+#[inline(never)]
 fn write_plane(rt: &impl Print, plane: &[i32], picture: bool) -> io::Result<()> {
     let mut buffer = [0u8; 65536];
     let size = size(plane, picture);

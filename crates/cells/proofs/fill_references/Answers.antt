@@ -10,4 +10,4 @@ pub returns-then-uses : goal.returns-then-uses
 returns-then-uses c =
     let n = length c.args.references.now in
     let size : 16 + n - 16 ≡ n = omega arith in
-    simp (sym c.uses.ensures ∙ c.if-uses.true) (rw (size, drop-drop n 16 c.args.cells.now, c.copy_from_slice.ensures.after))
+    simp (sym c.uses.ensures ∙ c.if-uses.true) (rw (size, drop-drop n 16 c.args.cells.now, c.copy.ensures))
