@@ -63,7 +63,8 @@ fn read_into(rt: &impl Input, bytes: &mut [u8], words: &mut [i32]) -> usize
     put_words(&bytes[..n], words)
 }
 
-// Reads no byte beyond the words.
+// Reads no byte beyond the words. Not inlined: its buffer would lie on the stack beside those of the caller and the one that is written.
+#[inline(never)]
 fn read_some(rt: &impl Input, words: &mut [i32]) -> usize
     ensures { result ≤ length words.old }
 {

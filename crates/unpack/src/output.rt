@@ -117,7 +117,7 @@ fn size(plane: &[i32], picture: bool) -> usize
     }
 }
 
-// Not inlined: its buffer would lie on the stack beside those of the caller and of what the caller reads with.
+// Not inlined, as `read_some` is not: so the two buffers never lie on the stack together.
 #[inline(never)]
 fn write_plane(rt: &impl Print, plane: &[i32], picture: bool) -> io::Result<()> {
     let mut buffer = [0u8; 65536];
