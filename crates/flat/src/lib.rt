@@ -97,12 +97,21 @@ fn walk_flat(
     loop {
         let at = 6 * place;
         if words[at] == -1 {
-            let leaf = read_leaf(&words[at..], place as u32)?;
-            break Ok(answer(leaf.as_leaf(), data, wp_pred, hops));
+            match read_leaf(&words[at..], place as u32) {
+                Err(refusal) => break Err(refusal),
+                Ok(leaf) => break Ok(answer(leaf.as_leaf(), data, wp_pred, hops)),
+            }
         }
-        let split = read_split(&words[at..], place as u32)?;
-        place = step(split, place, count, cells)?;
-        hops += 1;
+        match read_split(&words[at..], place as u32) {
+            Err(refusal) => break Err(refusal),
+            Ok(split) => match step(split, place, count, cells) {
+                Err(refusal) => break Err(refusal),
+                Ok(grandchild) => {
+                    place = grandchild;
+                    hops += 1;
+                }
+            },
+        }
     }
 }
 

@@ -116,9 +116,15 @@ pub fn visit_all(words: &[i32], work: &mut [i32]) -> Result<(), Refusal>
     let mut place = 0;
     let mut depth = 0;
     'visit: loop {
-        while let Some(left) = enter(words, place, depth, work)? {
-            place = left;
-            depth += 1;
+        loop {
+            match enter(words, place, depth, work) {
+                Err(refusal) => break 'visit Err(refusal),
+                Ok(None) => break,
+                Ok(Some(left)) => {
+                    place = left;
+                    depth += 1;
+                }
+            }
         }
         loop {
             if depth == 0 {

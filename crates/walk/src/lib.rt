@@ -112,13 +112,16 @@ fn walk(
     let mut hops: u32 = 0;
     loop {
         let at = 5 * place;
-        let node = read_node(&words[at..at + 5], place as u32)?;
-        match node {
-            Node::Leaf(leaf) => break Ok(answer(leaf, data, wp_pred, hops)),
-            Node::Split(split) => {
-                place = step(split, place, n, cells)?;
-                hops += 1;
-            }
+        match read_node(&words[at..at + 5], place as u32) {
+            Err(refusal) => break Err(refusal),
+            Ok(Node::Leaf(leaf)) => break Ok(answer(leaf, data, wp_pred, hops)),
+            Ok(Node::Split(split)) => match step(split, place, n, cells) {
+                Err(refusal) => break Err(refusal),
+                Ok(child) => {
+                    place = child;
+                    hops += 1;
+                }
+            },
         }
     }
 }

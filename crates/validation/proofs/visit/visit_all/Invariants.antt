@@ -3,11 +3,11 @@ use Rattle.validation.proofs.Steps.{Visiting, Rising}
 use Rattle.validation.proofs.ToDo.{cost}
 use Rattle.validation.proofs.visit.visit_all.Given as goal
 
-abbrev pub invariant-loop-left : goal.invariant-loop-left
-invariant-loop-left l = Visiting l.words l.initial.work l.initial.place l.initial.depth l.work l.place l.depth
+abbrev pub invariant-loop-refusal : goal.invariant-loop-refusal
+invariant-loop-refusal l = Visiting l.words l.initial.work l.initial.place l.initial.depth l.work l.place l.depth
 
-abbrev pub decreases-loop-left : goal.decreases-loop-left
-decreases-loop-left l = cost l.words l.place l.depth l.work
+abbrev pub decreases-loop-refusal : goal.decreases-loop-refusal
+decreases-loop-refusal l = cost l.words l.place l.depth l.work
 
 abbrev pub invariant-loop-depth : goal.invariant-loop-depth
 invariant-loop-depth l = Rising l.words l.initial.work l.initial.depth l.work l.depth
