@@ -1,4 +1,5 @@
 pub mod Fuel
+pub mod Needed
 pub mod Read
 pub mod Standing
 pub mod Turn
