@@ -77,7 +77,8 @@ pub fn mask(record: &Record) -> Result<(), Fault> {
     expect(mask == record.bits(13))
 }
 
-// A record of a verdict.
+// A record of a verdict. Not inlined: its work area would lie on the stack for the whole run.
+#[inline(never)]
 pub fn verdict(record: &Record) -> Result<(), Fault> {
     let (list, words) = tree(record)?;
     let mut work = [0i32; 10762];

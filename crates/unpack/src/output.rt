@@ -117,8 +117,6 @@ fn size(plane: &[i32], picture: bool) -> usize
     }
 }
 
-// Not inlined, as `read_some` is not: so the two buffers never lie on the stack together.
-#[inline(never)]
 fn write_plane(rt: &impl Print, plane: &[i32], picture: bool) -> io::Result<()> {
     let mut buffer = [0u8; 65536];
     let size = size(plane, picture);
@@ -131,6 +129,8 @@ fn write_plane(rt: &impl Print, plane: &[i32], picture: bool) -> io::Result<()> 
 }
 
 // The finished rows; for a picture after the lines that promise all of them.
+// Not inlined, as `read_some` is not: so what is written with and what is read with never lie on the stack together.
+#[inline(never)]
 pub fn write(
     rt: &impl Print,
     form: Form,

@@ -1,4 +1,5 @@
-// What is told on standard error. That it cannot be written is told nowhere.
+// What is told on standard error. That it cannot be written is told nowhere. Two of these are kept from being inlined: what they write
+// with would lie on the stack of the caller for the whole run.
 use crate::fault::Fault;
 use crate::input;
 use refusal::Refusal;
@@ -24,10 +25,12 @@ pub fn unwritten(rt: &impl Eprint) {
     let _ = eprintln!(rt; "standard output cannot be written");
 }
 
+#[inline(never)]
 pub fn rows_written(rt: &impl Eprint, done: usize, rows: usize) {
     let _ = eprintln!(rt; "{done} of {rows} rows are written");
 }
 
+#[inline(never)]
 pub fn fault(rt: &(impl Eprint + Input), fault: Fault) {
     match fault {
         Fault::Usage => {
