@@ -11,4 +11,3 @@ pub mod ToDo
 mod Turns
 pub mod Tree
 pub mod Walk
-pub mod Words

@@ -60,8 +60,13 @@ fn enter_split(
             high,
         }));
     }
+    // word by word: a copy of five would go by the stack first
     let at = 512 + 5 * depth;
-    work[at..at + 5].copy_from_slice(&[property as i32, value, low, high, split.right as i32]);
+    work[at] = property as i32;
+    work[at + 1] = value;
+    work[at + 2] = low;
+    work[at + 3] = high;
+    work[at + 4] = split.right as i32;
     work[lowest] = value + 1;
     Ok(Some(split.left as usize))
 }
